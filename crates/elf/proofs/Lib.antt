@@ -1,0 +1,7 @@
+pub mod Signs
+pub mod Powers
+pub mod Known
+pub mod Lowests
+pub mod Dynamics
+pub mod Located
+pub mod Passed

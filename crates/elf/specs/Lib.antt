@@ -1,0 +1,9 @@
+pub mod Bytes
+pub mod Layouts
+pub mod Records
+pub mod Searches
+pub mod Segments
+pub mod Dynamic
+pub mod Stages
+pub mod Descriptions
+pub mod Files
