@@ -5,3 +5,4 @@ pub mod Lowests
 pub mod Dynamics
 pub mod Located
 pub mod Passed
+pub mod Accessed

@@ -4,7 +4,7 @@ use mathlib.Core.Logic.{_⊎_, inl, inr}
 use mathlib.Core.List.{List}
 use mathlib.Core.Bool.{Bool, true, false, cond, _&&_}
 use Prim.Native.Nat.{ℕ, _+_, _-_, _*_, _/_, _%_, _^_, _≤_, _<_}
-use native.Mathlib.Nat.{mul-div-le, mul-le-mul-left, mul-zero}
+use native.Mathlib.Nat.{mul-div-le, mul-zero, div-le-of-le-mul}
 use native.Mathlib.Omega.{arith}
 use lib.Dec.{eqb, ltb, leb}
 use lib.ListN.{length}
@@ -13,6 +13,7 @@ use Rattle.std.proofs.shelf.Tests.{eq-eqb, lt-ltb, le-leb, ltb-true, leb-true, 
 use Rattle.std.proofs.shelf.Ways.{decides-eqb}
 use Rattle.faults.specs.Rules.{Clear}
 use Rattle.faults.specs.declared.fault.Reason.the-variants.{DynamicExtent}
+use Rattle.elf.specs.Layouts.{Sound}
 use Rattle.elf.specs.Searches.{Some-below, Lowest, lowest}
 use Rattle.elf.specs.Segments.{fileType, phnum, header, headers, onEach, Load}
 use Rattle.elf.specs.Stages.{Inside, Readable, Bounded, Extended, Listed}
@@ -250,3 +251,19 @@ module _ (l : Layout) (bytes : List ℕ) where
       let short = x .bounded .readable .headed .short in
       let limit = x .bounded .readable .headed .sound .file-limit in
       (λ i within. record { readable = x .bounded .readable; size = ap (λ (s : Table). s .size) e ∙ whole .1; inside = inside; within = within }, omega arith)
+
+  -- No more relocations than the limit, where the rule on the relocation table is clear.
+  pub relocations-few : Sound l → (Bad-table l bytes → ⊥) → relocationTable l bytes .count ≤ l .limits .relocations
+  relocations-few sound clear =
+      elim (cases-bool (hasTable l bytes)) [
+        | inl has ↦
+            let small : relasz l bytes ≤ l .relocation * l .limits .relocations =
+            elim (cases-lt (l .relocation * l .limits .relocations) (relasz l bytes)) [
+              | inl large ↦ absurd (clear (inr (has-parts has .0, inl (inr (inr large)))))
+              | inr s ↦ s
+            ] in
+            subst (λ (t : Table). t .count ≤ l .limits .relocations) (sym (located has)) (div-le-of-le-mul (l .relocation) small)
+        | inr lacks ↦
+            let e = lacking (λ has. both-ways (hasTable l bytes) lacks has) in
+            subst (λ (t : Table). t .count ≤ l .limits .relocations) e (omega arith)
+      ]

@@ -5,7 +5,7 @@ use Rattle.std.specs.declared.result.Result.{Result}
 use Rattle.std.specs.declared.result.Result.the-variants.{Ok, Err}
 use Rattle.faults.specs.Rules.{Rule, First, AllClear, Tried}
 use Rattle.faults.specs.declared.fault.Fault.{Fault}
-use Rattle.faults.proofs.Families.{first-front, first-back, clear-front, clear-back, clear-both}
+use Rattle.faults.proofs.Families.{first-front, first-back, clear-front, clear-back, clear-both, tried-back}
 use Rattle.elf.specs.Layouts.{Sound}
 use Rattle.elf.specs.Segments.{identity-rules, kind-rules, size-rules, table-rules, segment-rules}
 use Rattle.elf.specs.Stages.{Headed, Readable, Bounded, Extended}
@@ -40,29 +40,40 @@ module _ (l : Layout) (b : List ℕ) where
   abbrev behind4 : List Rule
   behind4 = segment-rules l b ++ dynamic-rules l b
 
+  -- The groups of the rules up to that on the relocation table, each clear.
+  pub record Groups : Type 0 where
+    pub identity : AllClear (identity-rules l b)
+    pub kind : AllClear (kind-rules l b)
+    pub size : AllClear (size-rules l b)
+    pub table : AllClear (table-rules l b)
+    pub segments : AllClear (segment-rules l b)
+    pub dynamic : AllClear (dynamic-rules l b)
+
+  pub groups : AllClear (format-rules l b) → Groups
+  unfolding format-rules
+  groups clear =
+      let a = clear-back (identity-rules l b) behind1 clear in
+      let k = clear-back (kind-rules l b) behind2 a in
+      let s = clear-back (size-rules l b) behind3 k in
+      let t = clear-back (table-rules l b) behind4 s in
+      record {
+        identity = clear-front (identity-rules l b) behind1 clear;
+        kind = clear-front (kind-rules l b) behind2 a;
+        size = clear-front (size-rules l b) behind3 k;
+        table = clear-front (table-rules l b) behind4 s;
+        segments = clear-front (segment-rules l b) (dynamic-rules l b) t;
+        dynamic = clear-back (segment-rules l b) (dynamic-rules l b) t;
+      }
+
   -- A file whose rules up to that on the relocation table are clear.
   pub knows-all : Sound l → AllClear (format-rules l b) → Extended l b
   knows-all sound clear =
-      let a = clear-back (identity-rules l b) behind1 clear in
-      let k = clear-back (kind-rules l b) behind2 a in
-      let s = clear-back (size-rules l b) behind3 k in
-      let t = clear-back (table-rules l b) behind4 s in
-      let h = knows-header sound (clear-front (identity-rules l b) behind1 clear) in
-      let r = knows-table h (clear-front (table-rules l b) behind4 s) in
-      let x = knows-segments r (clear-front (segment-rules l b) (dynamic-rules l b) t) in
-      knows-dynamic x (clear-back (segment-rules l b) (dynamic-rules l b) t)
-
-  -- The rule on the relocation table, which stands last.
-  pub last-clear : AllClear (format-rules l b) → AllClear (dynamic-rules l b)
-  last-clear clear =
-      let a = clear-back (identity-rules l b) behind1 clear in
-      let k = clear-back (kind-rules l b) behind2 a in
-      let s = clear-back (size-rules l b) behind3 k in
-      let t = clear-back (table-rules l b) behind4 s in
-      clear-back (segment-rules l b) (dynamic-rules l b) t
+      let g = groups clear in
+      knows-dynamic (knows-segments (knows-table (knows-header sound (g .identity)) (g .table)) (g .segments)) (g .dynamic)
 
   -- All groups are clear.
   pub all-groups : AllClear (identity-rules l b) → AllClear (kind-rules l b) → AllClear (size-rules l b) → AllClear (table-rules l b) → AllClear (segment-rules l b) → AllClear (dynamic-rules l b) → AllClear (format-rules l b)
+  unfolding format-rules
   all-groups i k s t g d =
       clear-both (identity-rules l b) behind1 i
       (clear-both (kind-rules l b) behind2 k
@@ -71,14 +82,17 @@ module _ (l : Layout) (b : List ℕ) where
   -- The first fault of one group, those before it clear.
   module _ (f : Fault) where
     pub at-identity : First (identity-rules l b) f → First (format-rules l b) f
+    unfolding format-rules
     at-identity first = first-front (identity-rules l b) behind1 f first
 
     module _ (i : AllClear (identity-rules l b)) where
       pub at-kind : First (kind-rules l b) f → First (format-rules l b) f
+      unfolding format-rules
       at-kind first = first-back (identity-rules l b) behind1 f i (first-front (kind-rules l b) behind2 f first)
 
       module _ (k : AllClear (kind-rules l b)) where
         behind-kind : First behind2 f → First (format-rules l b) f
+        unfolding format-rules
         behind-kind first = first-back (identity-rules l b) behind1 f i (first-back (kind-rules l b) behind2 f k first)
 
         pub at-size : First (size-rules l b) f → First (format-rules l b) f
@@ -90,6 +104,7 @@ module _ (l : Layout) (b : List ℕ) where
 
           module _ (t : AllClear (table-rules l b)) where
             behind-table : First behind4 f → First (format-rules l b) f
+            unfolding format-rules
             behind-table first = behind-kind (first-back (size-rules l b) behind3 f s (first-back (table-rules l b) behind4 f t first))
 
             pub at-segments : First (segment-rules l b) f → First (format-rules l b) f
@@ -105,8 +120,18 @@ module _ (l : Layout) (b : List ℕ) where
 
   -- What the check of the relocations answers, the format clear.
   pub at-relocations : {X : Type 0} (r : Result X Fault) → AllClear (format-rules l b) → Tried (relocation-rules l b) r → Tried (open-rules l b) r
-  at-relocations (Ok x) clear rest = clear-both (format-rules l b) (relocation-rules l b) clear rest
-  at-relocations (Err f) clear rest = first-back (format-rules l b) (relocation-rules l b) f clear rest
+  unfolding open-rules
+  at-relocations r clear rest = tried-back (format-rules l b) (relocation-rules l b) r clear rest
 
   pub at-format : (f : Fault) → First (format-rules l b) f → First (open-rules l b) f
+  unfolding open-rules
   at-format f first = first-front (format-rules l b) (relocation-rules l b) f first
+
+  -- The rules up to that on the relocation table, of a file whose rules are clear.
+  pub format-clear : AllClear (open-rules l b) → AllClear (format-rules l b)
+  unfolding open-rules
+  format-clear clear = clear-front (format-rules l b) (relocation-rules l b) clear
+
+  pub relocations-clear : AllClear (open-rules l b) → AllClear (relocation-rules l b)
+  unfolding open-rules
+  relocations-clear clear = clear-back (format-rules l b) (relocation-rules l b) clear

@@ -196,9 +196,9 @@ relocation-rules l bytes =
     ∷ []
 
 -- The rules on a file up to its relocation table, in the order in which they are tried.
-abbrev pub format-rules : Layout → List ℕ → List Rule
+unfoldable pub format-rules : Layout → List ℕ → List Rule
 format-rules l bytes = identity-rules l bytes ++ (kind-rules l bytes ++ (size-rules l bytes ++ (table-rules l bytes ++ (segment-rules l bytes ++ dynamic-rules l bytes))))
 
 -- All rules on a file, in the order in which they are tried.
-abbrev pub open-rules : Layout → List ℕ → List Rule
+unfoldable pub open-rules : Layout → List ℕ → List Rule
 open-rules l bytes = format-rules l bytes ++ relocation-rules l bytes

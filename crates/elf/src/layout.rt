@@ -1,7 +1,4 @@
 // Where a class of ELF file keeps its fields, and the sizes that the loader takes. Offsets, widths and sizes are in bytes.
-ghost use mathlib.Core.Path.{_≡_};
-ghost use Rattle.elf.specs.Layouts.{Sound, elf64};
-
 // The file header: its size, and the offset of each field.
 #[derive(Clone, Copy)]
 pub struct FileFields {
@@ -54,44 +51,37 @@ pub struct Layout {
 // The largest relocation table, in relocations.
 pub const LARGEST_TABLE: u64 = 65_536;
 
-const LIMITS: Limits = Limits {
-    file: 16_777_216,
-    headers: 64,
-    loads: 16,
-    dynamic: 4096,
-    relocations: LARGEST_TABLE,
-};
-
 // The layout of 64-bit files.
-pub fn elf64_layout() -> Layout
-    ensures same { λ r. ⌜ r ≡ elf64 ⌝ }
-    ensures sound { λ r. ⌜ Sound r ⌝ }
-{
-    Layout {
-        class: 2,
-        word: 8,
-        file: FileFields {
-            size: 64,
-            entry: 24,
-            phoff: 32,
-            flags: 48,
-            ehsize: 52,
-            phentsize: 54,
-            phnum: 56,
-        },
-        header: HeaderFields {
-            size: 56,
-            flags: 4,
-            offset: 8,
-            vaddr: 16,
-            filesz: 32,
-            memsz: 40,
-            align: 48,
-        },
-        dynamic: 16,
-        relocation: 24,
-        kinds: 1 << 32,
-        end: 1 << 38,
-        limits: LIMITS,
-    }
-}
+pub const ELF64: Layout = Layout {
+    class: 2,
+    word: 8,
+    file: FileFields {
+        size: 64,
+        entry: 24,
+        phoff: 32,
+        flags: 48,
+        ehsize: 52,
+        phentsize: 54,
+        phnum: 56,
+    },
+    header: HeaderFields {
+        size: 56,
+        flags: 4,
+        offset: 8,
+        vaddr: 16,
+        filesz: 32,
+        memsz: 40,
+        align: 48,
+    },
+    dynamic: 16,
+    relocation: 24,
+    kinds: 1 << 32,
+    end: 1 << 38,
+    limits: Limits {
+        file: 16_777_216,
+        headers: 64,
+        loads: 16,
+        dynamic: 4096,
+        relocations: LARGEST_TABLE,
+    },
+};

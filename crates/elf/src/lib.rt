@@ -1,5 +1,5 @@
 // A reader of ELF files for RISC-V: it checks a file against the rules of the format, and answers its headers and relocations.
-pub mod bytes;
+mod bytes;
 mod describe;
 mod dynamic;
 mod identity;

@@ -106,3 +106,8 @@ in-turn early late = record {
 pub passed-up : {X : Type 0} (Rs : List Rule) (f : Fault) (r : Result X Fault) → ErrBy r (λ g. g ≡ f) → First Rs f → Tried Rs r
 passed-up Rs f (Ok x) e first = absurd e
 passed-up Rs f (Err g) e first = subst (First Rs) (sym e) first
+
+-- What the check of a second family answers, the first one clear.
+pub tried-back : {X : Type 0} (Rs Ss : List Rule) (r : Result X Fault) → AllClear Rs → Tried Ss r → Tried (Rs ++ Ss) r
+tried-back Rs Ss (Ok x) front back = clear-both Rs Ss front back
+tried-back Rs Ss (Err f) front back = first-back Rs Ss f front back

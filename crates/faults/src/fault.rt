@@ -76,6 +76,12 @@ impl Layer {
     pub fn number(self) -> u8
         ensures { λ r. ⌜ r ≡ layerNumber self ⌝ }
     {
-        self as u8
+        match self {
+            Layer::Open => 1,
+            Layer::Plan => 2,
+            Layer::Process => 3,
+            Layer::Space => 4,
+            Layer::Dump => 5,
+        }
     }
 }
