@@ -84,10 +84,21 @@ fn the_parts_of_a_file_that_is_refused() -> Result<(), Fail> {
     let opened = Opened::new(&file);
     check_eq(opened.relocations(), 0)?;
     check(opened.relocation(0).is_none())?;
-    check(opened.header(0).is_some())?;
-    let cut = Opened::new(&BASE[0..176]);
+    check(opened.header(0).is_some())
+}
+
+#[test]
+fn the_parts_of_a_file_that_is_cut() -> Result<(), Fail> {
+    let file = BASE;
+    let cut = Opened::new(&file[0..176]);
+    check(cut.file_header().is_some())?;
     check(cut.header(1).is_some())?;
-    check(cut.header(2).is_none())?;
-    let short = Opened::new(&BASE[0..63]);
+    check(cut.header(2).is_none())
+}
+
+#[test]
+fn a_file_shorter_than_its_header() -> Result<(), Fail> {
+    let file = BASE;
+    let short = Opened::new(&file[0..63]);
     check(short.file_header().is_none())
 }
