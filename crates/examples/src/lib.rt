@@ -4,4 +4,6 @@ mod base;
 #[cfg(test)]
 mod opening;
 #[cfg(test)]
+mod planning;
+#[cfg(test)]
 mod reading;

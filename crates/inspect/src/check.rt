@@ -1,4 +1,5 @@
 // `inspect check`: whether the loader takes a file.
+use crate::files::read_file;
 use elf::opened::Opened;
 use elf::opened::open;
 use elf::records::ProgramHeader;
@@ -6,7 +7,6 @@ use faults::fault::Fault;
 use faults::words::ReasonDisplay;
 use std::env::Args;
 use std::error::AnyError;
-use std::fs;
 use std::io;
 
 // The type of a program header that describes a segment.
@@ -15,14 +15,19 @@ const LOAD: u32 = 1;
 // The type of a static file.
 const STATIC: u16 = 2;
 
-// Files beyond this are not read: the loader takes none of them anyhow.
-const LARGEST: u64 = 1 << 28;
-
 // The dynamic tags that give the sizes of relocation tables: PLTRELSZ, RELASZ, RELSZ and RELRSZ.
 const TABLE_SIZES: [u64; 4] = [2, 8, 18, 35];
 
 fn letter(set: bool, letter: char) -> char {
     if set { letter } else { '-' }
+}
+
+// Rights as letters: read, write, execute.
+pub(crate) fn letters(rights: u8) -> (char, char, char) {
+    let r = letter(rights / 4 % 2 == 1, 'r');
+    let w = letter(rights / 2 % 2 == 1, 'w');
+    let x = letter(rights % 2 == 1, 'x');
+    (r, w, x)
 }
 
 // How many load headers an opened file has.
@@ -132,30 +137,13 @@ pub(crate) fn print_answer(rt: &(impl Print + Eprint), name: &str, file: &[u8]) 
     }
 }
 
-// Reads a file, unless it is so large that reading it is pointless.
-fn read_file(rt: &LibcRuntime, name: &str) -> io::Result<Option<Vec<u8>>> {
-    if fs::metadata(rt, name)?.len() > LARGEST {
-        return Ok(None);
-    }
-    Ok(Some(fs::read(rt, name)?))
-}
-
 // One answer, or a message why the file could not be read: then false.
 fn check_file(rt: &LibcRuntime, name: &str) -> io::Result<bool> {
-    match read_file(rt, name) {
-        Ok(Some(bytes)) => {
-            print_answer(rt, name, bytes.as_slice())?;
-            Ok(true)
-        }
-        Ok(None) => {
-            eprintln!(rt, "inspect: {name}: too large to read")?;
-            Ok(false)
-        }
-        Err(error) => {
-            eprintln!(rt, "inspect: {name}: {error}")?;
-            Ok(false)
-        }
-    }
+    let Some(bytes) = read_file(rt, name)? else {
+        return Ok(false);
+    };
+    print_answer(rt, name, bytes.as_slice())?;
+    Ok(true)
 }
 
 pub(crate) fn check_files(rt: &LibcRuntime, names: Args) -> Result<(), AnyError> {

@@ -1,8 +1,11 @@
 // `inspect demo`: a whole task on a module that is part of the program.
 use crate::check::print_answer;
+use crate::plan::print_bytes;
+use crate::plan::print_plan;
 use crate::sample::MODULE;
 use elf::opened::Opened;
 use elf::opened::open;
+use image::plan::Plan;
 use std::error::AnyError;
 use std::io;
 
@@ -19,6 +22,25 @@ fn print_relocations(rt: &impl Print, opened: &Opened) -> io::Result<()> {
             println!(rt, "  {i:>3}  {offset:#8x}  {addend:>8}")?;
         }
     }
+    Ok(())
+}
+
+// The bias at which the module is planned.
+const BIAS: u64 = 0x10000;
+
+// Plans the module and shows its pointer table.
+fn plan_module(rt: &LibcRuntime, opened: &Opened) -> Result<(), AnyError> {
+    println!(rt, "planning it at bias {BIAS:#x}")?;
+    let plan = Plan::new(opened, BIAS);
+    print_plan(rt, "module", &plan)?;
+    rt.println("the bytes around its pointer table, once it is loaded")?;
+    print_bytes(rt, rt.alloc(), "module", &plan, BIAS + 0x23a8, 112)?;
+    println!(
+        rt,
+        "planning it at bias {:#x}, which is no multiple of a page",
+        BIAS + 8
+    )?;
+    print_plan(rt, "module", &Plan::new(opened, BIAS + 8))?;
     Ok(())
 }
 
@@ -39,6 +61,7 @@ pub(crate) fn demonstrate(rt: &LibcRuntime) -> Result<(), AnyError> {
     print_answer(rt, "module", &MODULE)?;
     if let Ok(opened) = open(&MODULE) {
         print_relocations(rt, &opened)?;
+        plan_module(rt, &opened)?;
     }
     rt.println("and damaged copies of it")?;
     damage(rt, "the magic number", 1, 0)?;
