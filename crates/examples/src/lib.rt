@@ -7,3 +7,5 @@ mod opening;
 mod planning;
 #[cfg(test)]
 mod reading;
+#[cfg(test)]
+mod walking;
