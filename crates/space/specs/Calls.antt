@@ -79,15 +79,19 @@ pub record Looks (p : ℕ) (r : Option Mapping) (m n : Meaning) : Type 0 where
 abbrev pub Behind : {X : Type 0} → List Rule → Result X Fault → Meaning → Meaning → (X → Type 0) → Type 0
 Behind rules r m n Done = Cases r (λ x. AllClear rules × Done x) (λ f. First rules f × (n ≡ m))
 
+-- map gives the page a frame, zeros and the rights, or refuses.
 abbrev pub Maps : ℕ → ℕ → Result (Unit {0}) Fault → Meaning → Meaning → Type 0
 Maps p rights r m n = Behind (map-rules m p rights) r m n (λ _. Mapped p rights m n)
 
+-- unmap takes the page's frame from it, or refuses.
 abbrev pub Unmaps : ℕ → Result (Unit {0}) Fault → Meaning → Meaning → Type 0
 Unmaps p r m n = Behind (unmap-rules m p) r m n (λ _. Unmapped p m n)
 
+-- peek answers the byte at an index of a frame, or refuses.
 abbrev pub Peeks : ℕ → ℕ → Result ℕ Fault → Meaning → Type 0
 Peeks f i r m = Cases r (λ b. AllClear (byte-rules m f i) × (b ≡ m .byte f i)) (λ e. First (byte-rules m f i) e)
 
+-- poke puts a byte at an index of a frame, or refuses.
 abbrev pub Pokes : ℕ → ℕ → ℕ → Result (Unit {0}) Fault → Meaning → Meaning → Type 0
 Pokes f i b r m n = Behind (byte-rules m f i) r m n (λ _. Poked f i b m n)
 

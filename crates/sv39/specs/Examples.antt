@@ -11,6 +11,7 @@ use Rattle.sv39.specs.Walks.{index, Ends}
 abbrev pub One-end : Type 0
 One-end = (memory : List ℕ) (base a : ℕ) (v w : Walk) → Ends memory base a v → Ends memory base a w → v ≡ w
 
+-- What the definitions give on examples that can be reckoned by hand.
 pub record Examples : Type 0 where
   -- The leaf of physical address 0x80005000 to read and write; the pointer to the table at 0x80001000.
   pub leaf : Says 0 0x200014d7 (Leaf (record { page = 0x80005; rights = 6 }))

@@ -1,9 +1,8 @@
-use Prim.Native.Nat.{_%_}
 use Rattle.space.proofs.Caches.{agrees-unmap, placed-emptied}
 use Rattle.space.proofs.tlb.TlbSpace.unmap.Needs as need
 
 pub ghost-self : need.ghost-self
-ghost-self g c = (placed-emptied (c .args .self .now .entries) (c .args .page % 16) (c .args .self .now .placed), tt)
+ghost-self g c = (placed-emptied (c .args .self .now .entries) _ (c .args .self .now .placed), tt)
 
 pub returns : need.returns
 returns g c v =
