@@ -4,6 +4,8 @@ use sv39::entry::Leaf;
 use sv39::entry::Walk;
 use sv39::entry::WalkDebug;
 use sv39::entry::WalkPartialEq;
+use sv39::entry::leaf_of;
+use sv39::entry::pointer_to;
 use sv39::walk::walk;
 
 const BASE: u64 = 0x8000_0000;
@@ -84,4 +86,13 @@ fn what_the_architecture_does_not_translate() -> Result<(), Fail> {
     check_eq(by(1, 1, 7), Walk::Fault).note("W without R")?;
     check_eq(by(1, 1, 8), Walk::Fault).note("a reserved bit")?;
     check_eq(by(513, 1, 5), Walk::Fault).note("an address with bit 39")
+}
+
+#[test]
+fn entries_are_made() -> Result<(), Fail> {
+    check_eq(pointer_to(0x80001), 0x2000_0401)?;
+    check_eq(leaf_of(0x80005, 6), 0x2000_14d7)?;
+    check_eq(leaf_of(0x80200, 5), 0x2008_005b)?;
+    check_eq(leaf_of(1, 1), 0x459)?;
+    check_eq(leaf_of(1, 4), 0x453)
 }

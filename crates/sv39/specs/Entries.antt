@@ -35,3 +35,11 @@ Says l e Zero = e ≡ 0
 Says l e Invalid = (0 < e) × (Malformed e ⊎ ((Pointing e → ⊥) × (Aligned l e → ⊥)))
 Says l e (Table p) = (Malformed e → ⊥) × Pointing e × (p ≡ page-in e)
 Says l e (Leaf h) = (Malformed e → ⊥) × (Pointing e → ⊥) × Aligned l e × (h .page ≡ page-in e) × (h .rights ≡ rights-in e)
+
+-- The entry that points to the table in a page: V.
+unfoldable pub pointer : ℕ → ℕ
+pointer page = page * 2 ^ 10 + 1
+
+-- The leaf of a page with rights: V, U and A; R, W and X as the rights say; D where W is set.
+unfoldable pub leaf : ℕ → ℕ → ℕ
+leaf page rights = page * 2 ^ 10 + (1 + 2 ^ 4 + 2 ^ 6 + 2 * bit 2 rights + (2 ^ 2 + 2 ^ 7) * bit 1 rights + 2 ^ 3 * bit 0 rights)
