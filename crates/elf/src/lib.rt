@@ -1,4 +1,6 @@
 // A reader of ELF files for RISC-V: it checks a file against the rules of the format, and answers its headers and relocations.
+#![tactic(auto)]
+
 mod bytes;
 mod describe;
 mod dynamic;

@@ -1,4 +1,6 @@
 // Examples that are run: files that just break a rule, and files that just keep it.
+#![tactic(auto)]
+
 #[cfg(test)]
 mod base;
 #[cfg(test)]

@@ -1,4 +1,6 @@
 // Plans of ELF files: which pages will be mapped with which rights, and which byte will stand where, and why.
+#![tactic(auto)]
+
 mod bytes;
 mod gather;
 pub mod laws;

@@ -1,4 +1,6 @@
 // The inspector: says of RISC-V ELF files what the loader would make of them.
+#![tactic(auto)]
+
 mod check;
 mod demo;
 mod files;
