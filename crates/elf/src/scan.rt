@@ -24,8 +24,8 @@ pub(crate) trait RecordTest {
 
 // The first of the records that the test fits.
 pub(crate) fn find<T: RecordTest>(test: &T, l: Layout, file: &[u8], count: u32) -> Option<u32>
-    requires { (i : ℕ) → i < count → ready test.now l file.now i }
-    ensures { MatchOption result ((i : ℕ) → i < count → fits test.now l file.now i → ⊥) (λ i. Lowest count (fits test.now l file.now) i) }
+    requires { (i : ℕ) → i < count → T.ready test.now l file.now i }
+    ensures { MatchOption result ((i : ℕ) → i < count → T.fits test.now l file.now i → ⊥) (λ i. Lowest count (T.fits test.now l file.now) i) }
 {
     for i in 0..count {
         if test.test(l, file, i) {
@@ -37,16 +37,16 @@ pub(crate) fn find<T: RecordTest>(test: &T, l: Layout, file: &[u8], count: u32) 
 
 // Whether the test fits one of the records.
 pub(crate) fn any<T: RecordTest>(test: &T, l: Layout, file: &[u8], count: u32) -> bool
-    requires { (i : ℕ) → i < count → ready test.now l file.now i }
-    ensures { Decides result (SomeBelow count (fits test.now l file.now)) }
+    requires { (i : ℕ) → i < count → T.ready test.now l file.now i }
+    ensures { Decides result (SomeBelow count (T.fits test.now l file.now)) }
 {
     find(test, l, file, count).is_some()
 }
 
 // The last of the records that the test fits.
 pub(crate) fn find_last<T: RecordTest>(test: &T, l: Layout, file: &[u8], count: u32) -> Option<u32>
-    requires { (i : ℕ) → i < count → ready test.now l file.now i }
-    ensures { MatchOption result ((i : ℕ) → i < count → fits test.now l file.now i → ⊥) (λ i. Highest count (fits test.now l file.now) i) }
+    requires { (i : ℕ) → i < count → T.ready test.now l file.now i }
+    ensures { MatchOption result ((i : ℕ) → i < count → T.fits test.now l file.now i → ⊥) (λ i. Highest count (T.fits test.now l file.now) i) }
 {
     for i in (0..count).rev() {
         if test.test(l, file, i) {
@@ -64,9 +64,9 @@ pub(crate) fn scan<T: RecordTest>(
     table: Table,
     reason: Reason,
 ) -> Result<(), Fault>
-    requires ready { (i : ℕ) → i < table.count → ready test.now l file.now i }
+    requires ready { (i : ℕ) → i < table.count → T.ready test.now l file.now i }
     requires ends { table.first + table.size * table.count < 2 ^ 64 }
-    ensures { Checked (on_each reason table (fits test.now l file.now)) result }
+    ensures { Checked (on_each reason table (T.fits test.now l file.now)) result }
 {
     match find(test, l, file, table.count) {
         None => Ok(()),

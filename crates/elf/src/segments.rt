@@ -174,8 +174,8 @@ pub(crate) fn scan_headers<T: RecordTest>(
     reason: Reason,
 ) -> Result<(), Fault>
     requires readable { Readable l file.now }
-    requires ready { (i : ℕ) → i < phnum l file.now → ready test.now l file.now i }
-    ensures { Checked (on_each reason (headers l file.now) (fits test.now l file.now)) result }
+    requires ready { (i : ℕ) → i < phnum l file.now → T.ready test.now l file.now i }
+    ensures { Checked (on_each reason (headers l file.now) (T.fits test.now l file.now)) result }
 {
     scan(test, l, file, header_table(l, file), reason)
 }
