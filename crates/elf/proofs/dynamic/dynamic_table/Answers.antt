@@ -9,5 +9,5 @@ unfolding dynamic_table
 returns c =
     let l = c.args.l in
     let b = c.args.file.now in
-    let h : c.nth-header-h.result ≡ header l b (dynamic_header l b) = c.nth-header-h.ensures ∙ ap (header l b) c.requires.header.1 in
+    let h : c.nth_header-h.result ≡ header l b (dynamic_header l b) = c.nth_header-h.ensures ∙ ap (header l b) c.requires.header.1 in
     rw h

@@ -4,17 +4,17 @@ use Rattle.elf.specs.Segments.{headers}
 use Rattle.elf.proofs.Known.{some, readable, table_ends}
 use Rattle.elf.proofs.identity.check_headers.Goals as goal
 
-pub check-inside-requires : goal.check-inside-requires
-check-inside-requires c = (c.requires, some c.args.l c.args.file.now c.in-ok-check-count.ensures)
+pub check_inside-requires : goal.check_inside-requires
+check_inside-requires c = (c.requires, some c.args.l c.args.file.now c.in_ok-check_count.ensures)
 
-pub header-table-requires : goal.header-table-requires
-header-table-requires c = readable _ _ c.requires c.in-ok-check-count.ensures c.in-ok-check-inside.ensures
+pub header_table-requires : goal.header_table-requires
+header_table-requires c = readable _ _ c.requires c.in_ok-check_count.ensures c.in_ok-check_inside.ensures
 
 pub scan-requires : goal.scan-requires
 scan-requires c =
-    let r : Readable c.args.l c.args.file.now = readable _ _ c.requires c.in-ok-check-count.ensures c.in-ok-check-inside.ensures in
-    let e = c.header-table.ensures in
+    let r : Readable c.args.l c.args.file.now = readable _ _ c.requires c.in_ok-check_count.ensures c.in_ok-check_inside.ensures in
+    let e = c.header_table.ensures in
     record { ready = λ i within. (r, rw (ap (λ t. t.count) e) at within); ends = rw e (table_ends _ _ r) }
 
-pub check-load-count-requires : goal.check-load-count-requires
-check-load-count-requires c = readable _ _ c.requires c.in-ok-check-count.ensures c.in-ok-check-inside.ensures
+pub check_load_count-requires : goal.check_load_count-requires
+check_load_count-requires c = readable _ _ c.requires c.in_ok-check_count.ensures c.in_ok-check_inside.ensures

@@ -7,5 +7,5 @@ abbrev pub invariant-loop-i : goal.invariant-loop-i
 invariant-loop-i s =
     (s.reader.file.now ≡ s.file)
     × (s.reader.layout ≡ s.l)
-    × (s.reader.at ≡ phoff s.l s.file + s.l.header.size * s.-i)
-    × (0 < s.-i → s.reader.at ≤ length s.file)
+    × (s.reader.at ≡ phoff s.l s.file + s.l.header.size * s._i)
+    × (0 < s._i → s.reader.at ≤ length s.file)

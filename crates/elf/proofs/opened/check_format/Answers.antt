@@ -4,66 +4,66 @@ use Rattle.elf.specs.Stages.{Headed, Readable}
 use Rattle.elf.proofs.Passed.{knows_header, knows_table, knows_segments, at_identity, at_kind, at_size, at_table, at_segments, at_last}
 use Rattle.elf.proofs.opened.check_format.Goals as goal
 
-pub check-kind-requires : goal.check-kind-requires
-check-kind-requires c = knows_header c.args.l c.args.file.now c.requires c.in-ok-check-identity.ensures
+pub check_kind-requires : goal.check_kind-requires
+check_kind-requires c = knows_header c.args.l c.args.file.now c.requires c.in_ok-check_identity.ensures
 
-pub check-sizes-requires : goal.check-sizes-requires
-check-sizes-requires c = knows_header c.args.l c.args.file.now c.requires c.in-ok-check-identity.ensures
+pub check_sizes-requires : goal.check_sizes-requires
+check_sizes-requires c = knows_header c.args.l c.args.file.now c.requires c.in_ok-check_identity.ensures
 
-pub check-headers-requires : goal.check-headers-requires
-check-headers-requires c = knows_header c.args.l c.args.file.now c.requires c.in-ok-check-identity.ensures
+pub check_headers-requires : goal.check_headers-requires
+check_headers-requires c = knows_header c.args.l c.args.file.now c.requires c.in_ok-check_identity.ensures
 
-pub check-segments-requires : goal.check-segments-requires
-check-segments-requires c =
-    let h : Headed c.args.l c.args.file.now = knows_header c.args.l c.args.file.now c.requires c.in-ok-check-identity.ensures in
-    knows_table c.args.l c.args.file.now h c.in-ok-check-headers.ensures
+pub check_segments-requires : goal.check_segments-requires
+check_segments-requires c =
+    let h : Headed c.args.l c.args.file.now = knows_header c.args.l c.args.file.now c.requires c.in_ok-check_identity.ensures in
+    knows_table c.args.l c.args.file.now h c.in_ok-check_headers.ensures
 
-pub check-dynamic-requires : goal.check-dynamic-requires
-check-dynamic-requires c =
-    let h : Headed c.args.l c.args.file.now = knows_header c.args.l c.args.file.now c.requires c.in-ok-check-identity.ensures in
-    let r : Readable c.args.l c.args.file.now = knows_table c.args.l c.args.file.now h c.in-ok-check-headers.ensures in
-    knows_segments c.args.l c.args.file.now r c.in-ok-check-segments.ensures
+pub check_dynamic-requires : goal.check_dynamic-requires
+check_dynamic-requires c =
+    let h : Headed c.args.l c.args.file.now = knows_header c.args.l c.args.file.now c.requires c.in_ok-check_identity.ensures in
+    let r : Readable c.args.l c.args.file.now = knows_table c.args.l c.args.file.now h c.in_ok-check_headers.ensures in
+    knows_segments c.args.l c.args.file.now r c.in_ok-check_segments.ensures
 
-pub returns-in-err-check-identity : goal.returns-in-err-check-identity
-returns-in-err-check-identity c =
+pub returns-in_err-check_identity : goal.returns-in_err-check_identity
+returns-in_err-check_identity c =
     let l = c.args.l in
     let b = c.args.file.now in
-    passed_up (format_rules l b) _ _ c.from-residual.ensures.1 (at_identity l b _ c.in-err-check-identity.ensures)
+    passed_up (format_rules l b) _ _ c.from-residual.ensures.1 (at_identity l b _ c.in_err-check_identity.ensures)
 
-pub returns-in-err-check-kind : goal.returns-in-err-check-kind
-returns-in-err-check-kind c =
+pub returns-in_err-check_kind : goal.returns-in_err-check_kind
+returns-in_err-check_kind c =
     let l = c.args.l in
     let b = c.args.file.now in
-    passed_up (format_rules l b) _ _ c.from-residual-in-err-check-kind.ensures.1
-    (at_kind l b _ c.in-ok-check-identity.ensures c.in-err-check-kind.ensures)
+    passed_up (format_rules l b) _ _ c.from-residual-in_err-check_kind.ensures.1
+    (at_kind l b _ c.in_ok-check_identity.ensures c.in_err-check_kind.ensures)
 
-pub returns-in-err-check-sizes : goal.returns-in-err-check-sizes
-returns-in-err-check-sizes c =
+pub returns-in_err-check_sizes : goal.returns-in_err-check_sizes
+returns-in_err-check_sizes c =
     let l = c.args.l in
     let b = c.args.file.now in
-    passed_up (format_rules l b) _ _ c.from-residual-in-err-check-sizes.ensures.1
-    (at_size l b _ c.in-ok-check-identity.ensures c.in-ok-check-kind.ensures c.in-err-check-sizes.ensures)
+    passed_up (format_rules l b) _ _ c.from-residual-in_err-check_sizes.ensures.1
+    (at_size l b _ c.in_ok-check_identity.ensures c.in_ok-check_kind.ensures c.in_err-check_sizes.ensures)
 
-pub returns-in-err-check-headers : goal.returns-in-err-check-headers
-returns-in-err-check-headers c =
+pub returns-in_err-check_headers : goal.returns-in_err-check_headers
+returns-in_err-check_headers c =
     let l = c.args.l in
     let b = c.args.file.now in
-    passed_up (format_rules l b) _ _ c.from-residual-in-err-check-headers.ensures.1
-    (at_table l b _ c.in-ok-check-identity.ensures c.in-ok-check-kind.ensures c.in-ok-check-sizes.ensures c.in-err-check-headers.ensures)
+    passed_up (format_rules l b) _ _ c.from-residual-in_err-check_headers.ensures.1
+    (at_table l b _ c.in_ok-check_identity.ensures c.in_ok-check_kind.ensures c.in_ok-check_sizes.ensures c.in_err-check_headers.ensures)
 
-pub returns-in-err-check-segments : goal.returns-in-err-check-segments
-returns-in-err-check-segments c =
+pub returns-in_err-check_segments : goal.returns-in_err-check_segments
+returns-in_err-check_segments c =
     let l = c.args.l in
     let b = c.args.file.now in
-    passed_up (format_rules l b) _ _ c.from-residual-in-err-check-segments.ensures.1
-    (at_segments l b _ c.in-ok-check-identity.ensures c.in-ok-check-kind.ensures c.in-ok-check-sizes.ensures c.in-ok-check-headers.ensures c.in-err-check-segments.ensures)
+    passed_up (format_rules l b) _ _ c.from-residual-in_err-check_segments.ensures.1
+    (at_segments l b _ c.in_ok-check_identity.ensures c.in_ok-check_kind.ensures c.in_ok-check_sizes.ensures c.in_ok-check_headers.ensures c.in_err-check_segments.ensures)
 
 pub returns : goal.returns
 returns c =
-    at_last c.args.l c.args.file.now c.check-dynamic.result
-    c.in-ok-check-identity.ensures
-    c.in-ok-check-kind.ensures
-    c.in-ok-check-sizes.ensures
-    c.in-ok-check-headers.ensures
-    c.in-ok-check-segments.ensures
-    c.check-dynamic.ensures
+    at_last c.args.l c.args.file.now c.check_dynamic.result
+    c.in_ok-check_identity.ensures
+    c.in_ok-check_kind.ensures
+    c.in_ok-check_sizes.ensures
+    c.in_ok-check_headers.ensures
+    c.in_ok-check_segments.ensures
+    c.check_dynamic.ensures

@@ -4,12 +4,12 @@ use Rattle.elf.proofs.Accessed.{count_few}
 use Rattle.elf.proofs.Passed.{knows_all}
 use Rattle.elf.proofs.opened.listed_relocations.Goals as goal
 
-pub relocation-table-requires : goal.relocation-table-requires
-relocation-table-requires c = knows_all c.args.l c.args.file.now c.requires c.in-Ok.ensures
+pub relocation_table-requires : goal.relocation_table-requires
+relocation_table-requires c = knows_all c.args.l c.args.file.now c.requires c.in-Ok.ensures
 
 pub returns-in-Ok : goal.returns-in-Ok
 returns-in-Ok c =
-    let e = c.relocation-table.ensures in
+    let e = c.relocation_table.ensures in
     let l = c.args.l in
     record {
       listing = inl (c.in-Ok.ensures, e);

@@ -7,4 +7,4 @@ use Rattle.elf.proofs.records.relocation_at.Goals as goal
 pub returns : goal.returns
 unfolding relocation_at
 returns c =
-    rw (there_and_back w64 c.signed-at.result c.signed-at.type-inv, c.signed-at.ensures, c.word-at.ensures.value, c.word-at-info.ensures.value)
+    rw (there_and_back w64 c.signed_at.result c.signed_at.type_inv, c.signed_at.ensures, c.word_at.ensures.value, c.word_at-info.ensures.value)

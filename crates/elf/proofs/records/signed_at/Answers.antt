@@ -7,20 +7,20 @@ use Rattle.elf.proofs.records.signed_at.Goals as goal
 
 pub returns-then-width-eq4 : goal.returns-then-width-eq4
 returns-then-width-eq4 c =
-    let z = c.cast-signed.result in
+    let z = c.cast_signed.result in
     let wide : mag z < 9223372036854775808 = omega arith in
-    let value : c.u32-at.result ≡ le c.args.file.now c.args.at c.args.width = c.u32-at.ensures ∙ ap (le c.args.file.now c.args.at) (sym c.if-width-eq4.true) in
-    ap (λ x. to_z w64 (of_z w64 x)) (there_and_back w32 z c.cast-signed.type-inv) ∙ there_and_back w64 z wide ∙ c.cast-signed.ensures
-    ∙ signed_bits w32 4 c.u32-at.result refl refl c.u32-at.type-inv
-    ∙ ap (λ w. signed w c.u32-at.result) (sym c.if-width-eq4.true)
+    let value : c.u32_at.result ≡ le c.args.file.now c.args.at c.args.width = c.u32_at.ensures ∙ ap (le c.args.file.now c.args.at) (sym c.if-width-eq4.true) in
+    ap (λ x. to_z w64 (of_z w64 x)) (there_and_back w32 z c.cast_signed.type_inv) ∙ there_and_back w64 z wide ∙ c.cast_signed.ensures
+    ∙ signed_bits w32 4 c.u32_at.result refl refl c.u32_at.type_inv
+    ∙ ap (λ w. signed w c.u32_at.result) (sym c.if-width-eq4.true)
     ∙ ap (signed c.args.width) value
 
 pub returns-else-width-eq4 : goal.returns-else-width-eq4
 returns-else-width-eq4 c =
-    let z = c.cast-signed-else-width-eq4.result in
+    let z = c.cast_signed-else-width-eq4.result in
     let eight : c.args.width ≡ 8 = omega arith in
-    let value : c.u64-at.result ≡ le c.args.file.now c.args.at c.args.width = c.u64-at.ensures ∙ ap (le c.args.file.now c.args.at) (sym eight) in
-    there_and_back w64 z c.cast-signed-else-width-eq4.type-inv ∙ c.cast-signed-else-width-eq4.ensures
-    ∙ signed_bits w64 8 c.u64-at.result refl refl c.u64-at.type-inv
-    ∙ ap (λ w. signed w c.u64-at.result) (sym eight)
+    let value : c.u64_at.result ≡ le c.args.file.now c.args.at c.args.width = c.u64_at.ensures ∙ ap (le c.args.file.now c.args.at) (sym eight) in
+    there_and_back w64 z c.cast_signed-else-width-eq4.type_inv ∙ c.cast_signed-else-width-eq4.ensures
+    ∙ signed_bits w64 8 c.u64_at.result refl refl c.u64_at.type_inv
+    ∙ ap (λ w. signed w c.u64_at.result) (sym eight)
     ∙ ap (signed c.args.width) value

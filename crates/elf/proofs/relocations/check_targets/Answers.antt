@@ -9,12 +9,12 @@ use Rattle.elf.proofs.relocations.check_targets.Goals as goal
 
 pub scan-requires : goal.scan-requires
 scan-requires c =
-    let ready = relocations_ready c.args.l c.args.file.now c.relocation-table-table.result c.relocation-table-table.ensures c.requires in
+    let ready = relocations_ready c.args.l c.args.file.now c.relocation_table-table.result c.relocation_table-table.ensures c.requires in
     record { ready = ready.0; ends = ready.1 }
 
 pub returns : goal.returns
 returns c =
     subst
     (λ (t : Table). Checked (on_each RelocationTarget t (BadTarget c.args.l c.args.file.now t)) c.scan.result)
-    c.relocation-table-table.ensures
+    c.relocation_table-table.ensures
     c.scan.ensures

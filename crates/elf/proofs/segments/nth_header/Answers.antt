@@ -2,8 +2,8 @@ use Rattle.std.proofs.Common.{◌+◌, ◌*◌, ◌≤◌, length, mul-le-mul_le
 use Rattle.elf.specs.Segments.{phnum}
 use Rattle.elf.proofs.segments.nth_header.Goals as goal
 
-pub header-at-requires : goal.header-at-requires
-header-at-requires c =
+pub header_at-requires : goal.header_at-requires
+header_at-requires c =
     let l = c.args.l in
     let i = c.args.i in
     let next : i + 1 ≤ phnum l c.args.file.now = omega arith in

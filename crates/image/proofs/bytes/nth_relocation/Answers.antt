@@ -32,17 +32,17 @@ answer b bias t i (Some x) clear e within (_, same) = (
       omega arith,
 )
 
-pub overflow-mul-table : goal.overflow-mul-table
-overflow-mul-table c =
+pub overflow_mul-table : goal.overflow_mul-table
+overflow_mul-table c =
     let b = c.args.opened.now.file.now in
     let short = (laid b c.args.bias c.requires.clear).bounded.readable.headed.short in
     record { fits = omega (arith, ends b c.args.bias c.args.table c.args.i c.requires.clear c.requires.table c.requires.within) }
 
-pub overflow-add-table : goal.overflow-add-table
-overflow-add-table c =
+pub overflow_add-table : goal.overflow_add-table
+overflow_add-table c =
     let b = c.args.opened.now.file.now in
     let short = (laid b c.args.bias c.requires.clear).bounded.readable.headed.short in
     record { fits = omega (arith, ends b c.args.bias c.args.table c.args.i c.requires.clear c.requires.table c.requires.within) }
 
 pub returns : goal.returns
-returns c = answer c.args.opened.now.file.now c.args.bias c.args.table c.args.i c.relocation-at.result c.requires.clear c.requires.table c.requires.within c.relocation-at.ensures
+returns c = answer c.args.opened.now.file.now c.args.bias c.args.table c.args.i c.relocation_at.result c.requires.clear c.requires.table c.requires.within c.relocation_at.ensures

@@ -8,9 +8,9 @@ use Rattle.image.specs.declared.segments.Segment.{Segment}
 use Rattle.image.proofs.Gathers.{header_whole, loads_load, loads_mono, gathered_load, gathered_other}
 use Rattle.image.proofs.gather.add.Goals as goal
 
-pub returns-in-default : goal.returns-in-default
-returns-in-default c =
-    absurd (c.in-default.ensures (header_whole elf64 c.args.opened.now.file.now c.requires.laid.bounded.readable c.args.i c.requires.within))
+pub returns-in_default : goal.returns-in_default
+returns-in_default c =
+    absurd (c.in_default.ensures (header_whole elf64 c.args.opened.now.file.now c.requires.laid.bounded.readable c.args.i c.requires.within))
 
 pub push-requires : goal.push-requires
 push-requires c =
@@ -29,7 +29,7 @@ returns-then-h-eq-LOAD c =
     let i = c.args.i in
     let same : c.in-Some.h ≡ header elf64 b i = c.in-Some.ensures.1 in
     let load : Load (header elf64 b i) = sym (ap (λ (h : ProgramHeader). h.kind) same) ∙ c.if-h-eq-LOAD.true in
-    let segment : c.segment-of.result ≡ segment_of c.args.bias (header elf64 b i) = c.segment-of.ensures ∙ ap (segment_of c.args.bias) same in
+    let segment : c.segment_of.result ≡ segment_of c.args.bias (header elf64 b i) = c.segment_of.ensures ∙ ap (segment_of c.args.bias) same in
     gathered_load elf64 b c.args.bias i c.args.segments.now c.requires.so_far c.push.new.self load
     (c.push.ensures.listed ∙ ap (λ (s : Segment). listed c.args.segments.now ++ s ∷ []) segment)
     c.push.ensures.count

@@ -14,4 +14,4 @@ loop-i-preserved c =
     let b = c.args.opened.now.file.now in
     let i = c.loop-i.i in
     let h = header elf64 b i in
-    c.end-after-end.ensures ∙ ap (λ (e : ℕ). cond (eqb h.kind 1) (h.vaddr + h.memsz) e) c.loop-i.invariant ∙ sym (ap (end_below elf64 b) (add-one i))
+    c.end_after-end.ensures ∙ ap (λ (e : ℕ). cond (eqb h.kind 1) (h.vaddr + h.memsz) e) c.loop-i.invariant ∙ sym (ap (end_below elf64 b) (add-one i))

@@ -11,9 +11,9 @@ loop-range-preserved c =
     let xs = c.args.ranges.now in
     let i = c.loop-range.range-index in
     let W : ℕ → Type 0 = Outside c.args.first c.args.count in
-    let found = c.range-outside.ensures in
+    let found = c.range_outside.ensures in
     subst (λ (o : Option ℕ). LowestOf (λ p. Covered (take (i + 1) xs) p × W p) o) (sym c.lower-lowest.ensures)
-    (search_more xs W i (record { first = 0; count = 0 }) c.loop-range.lowest c.range-outside.result c.loop-range-test.true c.loop-range.invariant found)
+    (search_more xs W i (record { first = 0; count = 0 }) c.loop-range.lowest c.range_outside.result c.loop-range-test.true c.loop-range.invariant found)
 
 pub returns : goal.returns
 returns c =

@@ -11,9 +11,9 @@ loop-range-preserved c =
     let xs = c.args.a.now in
     let i = c.loop-range.range-index in
     let W : ℕ → Type 0 = Covered c.args.b.now in
-    let found = swapped W _ c.lowest-within.result c.lowest-within.ensures in
+    let found = swapped W _ c.lowest_within.result c.lowest_within.ensures in
     subst (λ (o : Option ℕ). LowestOf (λ p. Covered (take (i + 1) xs) p × W p) o) (sym c.lower-lowest.ensures)
-    (search_more xs W i (record { first = 0; count = 0 }) c.loop-range.lowest c.lowest-within.result c.loop-range-test.true c.loop-range.invariant found)
+    (search_more xs W i (record { first = 0; count = 0 }) c.loop-range.lowest c.lowest_within.result c.loop-range-test.true c.loop-range.invariant found)
 
 pub returns : goal.returns
 returns c =

@@ -11,9 +11,9 @@ loop-other-preserved c =
     let xs = c.args.ranges.now in
     let i = c.loop-other.other-index in
     let W : ℕ → Type 0 = Covers c.args.range in
-    let found = c.range-shared.ensures in
+    let found = c.range_shared.ensures in
     subst (λ (o : Option ℕ). LowestOf (λ p. Covered (take (i + 1) xs) p × W p) o) (sym c.lower-lowest.ensures)
-    (search_more xs W i (record { first = 0; count = 0 }) c.loop-other.lowest c.range-shared.result c.loop-other-test.true c.loop-other.invariant found)
+    (search_more xs W i (record { first = 0; count = 0 }) c.loop-other.lowest c.range_shared.result c.loop-other-test.true c.loop-other.invariant found)
 
 pub returns : goal.returns
 returns c =

@@ -7,14 +7,14 @@ use Rattle.image.proofs.Counts.{found_inside}
 use Rattle.image.proofs.Firsts.{first_passes, begins_below, ends_above}
 use Rattle.image.proofs.trace.trace.Goals as goal
 
-pub overflow-sub-result : goal.overflow-sub-result
-overflow-sub-result c =
+pub overflow_sub-result : goal.overflow_sub-result
+overflow_sub-result c =
     let a = c.args.address in
     let s = c.in-Some-find.s in
     begins_below a s (first_passes (has_file_byte a) (listed c.args.segments.now) s (sym c.in-Some-find.ensures))
 
-pub overflow-add-result : goal.overflow-add-result
-overflow-add-result c =
+pub overflow_add-result : goal.overflow_add-result
+overflow_add-result c =
     let b = c.args.opened.now.file.now in
     let bias = c.args.bias in
     let a = c.args.address in

@@ -9,5 +9,5 @@ loop-k-preserved c = λ j within.
     let t = c.args.target in
     let k = c.loop-k.k in
     let now = get_or c.loop-k.out j 0 in
-    let put : get_or c.put-byte.new.out j 0 ≡ cond (eqb a (t + k)) (byte_of c.args.word k) now = c.put-byte.ensures j (omega (arith, c.loop-k.auto.out)) ∙ ap (λ (b : ℕ). cond (eqb a (t + k)) b now) c.word-byte.ensures in
-    byte_more (byte_of c.args.word) t k a (get_or c.args.out.now j 0) now (get_or c.put-byte.new.out j 0) (c.loop-k.invariant j within) put
+    let put : get_or c.put_byte.new.out j 0 ≡ cond (eqb a (t + k)) (byte_of c.args.word k) now = c.put_byte.ensures j (omega (arith, c.loop-k.auto.out)) ∙ ap (λ (b : ℕ). cond (eqb a (t + k)) b now) c.word_byte.ensures in
+    byte_more (byte_of c.args.word) t k a (get_or c.args.out.now j 0) now (get_or c.put_byte.new.out j 0) (c.loop-k.invariant j within) put

@@ -6,18 +6,18 @@ use Rattle.image.specs.Prescribed.{image_of}
 use Rattle.image.proofs.Known.{laid}
 use Rattle.image.proofs.plan.Plan.entry.Goals as goal
 
-pub returns-in-err-check : goal.returns-in-err-check
-returns-in-err-check c =
-    handed_up (load_rules elf64 c.args.self.now.opened.file.now c.args.self.now.bias) _ _ _ c.from-residual.ensures.1 c.in-err-check.ensures
+pub returns-in_err-check : goal.returns-in_err-check
+returns-in_err-check c =
+    handed_up (load_rules elf64 c.args.self.now.opened.file.now c.args.self.now.bias) _ _ _ c.from-residual.ensures.1 c.in_err-check.ensures
 
-pub entry-of-requires : goal.entry-of-requires
-entry-of-requires c = (laid c.args.self.now.opened.file.now c.args.self.now.bias c.in-ok-check.ensures).bounded
+pub entry_of-requires : goal.entry_of-requires
+entry_of-requires c = (laid c.args.self.now.opened.file.now c.args.self.now.bias c.in_ok-check.ensures).bounded
 
-pub overflow-add-result : goal.overflow-add-result
-overflow-add-result c =
+pub overflow_add-result : goal.overflow_add-result
+overflow_add-result c =
     let b = c.args.self.now.opened.file.now in
-    record { fits = omega (arith, (laid b c.args.self.now.bias c.in-ok-check.ensures).entry, c.entry-of.ensures) }
+    record { fits = omega (arith, (laid b c.args.self.now.bias c.in_ok-check.ensures).entry, c.entry_of.ensures) }
 
 pub returns : goal.returns
 unfolding image_of
-returns c = (c.in-ok-check.ensures, ap (λ (e : ℕ). c.args.self.now.bias + e) c.entry-of.ensures)
+returns c = (c.in_ok-check.ensures, ap (λ (e : ℕ). c.args.self.now.bias + e) c.entry_of.ensures)

@@ -1,8 +1,8 @@
 use Rattle.space.proofs.Caches.{agrees_unmap, placed_emptied}
 use Rattle.space.proofs.tlb.TlbSpace.unmap.Goals as goal
 
-pub invariant-of-self : goal.invariant-of-self
-invariant-of-self g c = (placed_emptied c.args.self.now.entries _ c.args.self.now.placed, tt)
+pub invariant_of-self : goal.invariant_of-self
+invariant_of-self g c = (placed_emptied c.args.self.now.entries _ c.args.self.now.placed, tt)
 
 pub returns : goal.returns
 returns g c v =

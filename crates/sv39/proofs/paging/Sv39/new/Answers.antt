@@ -4,21 +4,21 @@ use Rattle.sv39.proofs.Makes.{kept_void, kept_built, made}
 use Rattle.sv39.proofs.Facts.{owed}
 use Rattle.sv39.proofs.paging.Sv39.new.Goals as goal
 
-pub invariant-of-result : goal.invariant-of-result
-invariant-of-result c = owed _ _ _ (kept_void c.args.memory.now c.args.free.now)
+pub invariant_of-result : goal.invariant_of-result
+invariant_of-result c = owed _ _ _ (kept_void c.args.memory.now c.args.free.now)
 
-pub overflow-cast-frames : goal.overflow-cast-frames
-overflow-cast-frames c = let l = c.in-default.ensures in omega (arith, l.whole.1)
+pub overflow_cast-frames : goal.overflow_cast-frames
+overflow_cast-frames c = let l = c.in_default.ensures in omega (arith, l.whole.1)
 
-pub overflow-add-frames : goal.overflow-add-frames
-overflow-add-frames c = let l = c.in-default.ensures in omega (arith, l.window.2)
+pub overflow_add-frames : goal.overflow_add-frames
+overflow_add-frames c = let l = c.in_default.ensures in omega (arith, l.window.2)
 
-pub overflow-sub-frames : goal.overflow-sub-frames
-overflow-sub-frames c = let l = c.in-default.ensures in omega (arith, l.tables)
+pub overflow_sub-frames : goal.overflow_sub-frames
+overflow_sub-frames c = let l = c.in_default.ensures in omega (arith, l.tables)
 
 pub build-requires : goal.build-requires
 build-requires c =
-    let l = c.in-default.ensures in
+    let l = c.in_default.ensures in
     record {
       held = omega (arith, l.tables);
       window = omega (arith, l.window.0);
@@ -26,15 +26,15 @@ build-requires c =
       reach = omega (arith, l.reach, l.tables, l.aligned);
     }
 
-pub invariant-of-result-2 : goal.invariant-of-result-2
-invariant-of-result-2 c =
-    let l = c.in-default.ensures in
-    owed _ _ _ (kept_built _ _ _ c.args.memory.now _ _ (pool c.release-all.new.self) l refl c.build.ensures c.release-all.ensures)
+pub invariant_of-result-2 : goal.invariant_of-result-2
+invariant_of-result-2 c =
+    let l = c.in_default.ensures in
+    owed _ _ _ (kept_built _ _ _ c.args.memory.now _ _ (pool c.release_all.new.self) l refl c.build.ensures c.release_all.ensures)
 
 pub returns : goal.returns
 returns c =
-    let l = c.in-default.ensures in
+    let l = c.in_default.ensures in
     record {
-      made = λ _. made _ _ _ c.args.memory.now _ _ (pool c.release-all.new.self) l refl c.build.ensures c.release-all.ensures;
+      made = λ _. made _ _ _ c.args.memory.now _ _ (pool c.release_all.new.self) l refl c.build.ensures c.release_all.ensures;
       unmade = λ refused. absurd (refused l);
     }

@@ -9,7 +9,7 @@ pub returns-then-entry-ne0 : goal.returns-then-entry-ne0
 returns-then-entry-ne0 c =
     let t = c.args.self.now in
     let p = c.args.page in
-    let inside = denied c.if-is-outside.ensures in
+    let inside = denied c.if-is_outside.ensures in
     let e = entry_is t p c.first.result c.entry.result c.first.ensures c.entry.ensures in record {
       step = λ v. (tt, (map_mapped (means t) p c.args.rights _ inside (_, (within t p inside).page ∙ mapping_more t.figures _ (omega arith)) c.refusal-then-entry-ne0.ensures, refl));
       refused = refl;
@@ -18,22 +18,22 @@ returns-then-entry-ne0 c =
 pub zero-requires : goal.zero-requires
 zero-requires c =
     let t = c.args.self.now in
-    let w = within t c.args.page (denied c.if-is-outside.ensures) in
+    let w = within t c.args.page (denied c.if-is_outside.ensures) in
     omega (arith, (head_lies t c.args.page w (omega arith)).1, c.place-at.ensures)
 
-pub invariant-of-self : goal.invariant-of-self
-invariant-of-self c =
-    owed _ _ _ (map_step c.args.self.now c.args.page c.args.rights c.first.result c.entry.result c.origin.result c.place-at.result c.leaf-of-entry.result _ _ c.take.result (pool c.take.new.self)
-    (denied c.if-is-outside.ensures) c.first.ensures c.entry.ensures c.if-entry-ne0.false (omega arith) (c.if-not-is-lawful.ensures.0 refl)
-    c.origin.ensures c.place-at.ensures c.leaf-of-entry.ensures c.zero.ensures c.set-entry.ensures c.take.ensures).0
+pub invariant_of-self : goal.invariant_of-self
+invariant_of-self c =
+    owed _ _ _ (map_step c.args.self.now c.args.page c.args.rights c.first.result c.entry.result c.origin.result c.place-at.result c.leaf_of-entry.result _ _ c.take.result (pool c.take.new.self)
+    (denied c.if-is_outside.ensures) c.first.ensures c.entry.ensures c.if-entry-ne0.false (omega arith) (c.if-not-is_lawful.ensures.0 refl)
+    c.origin.ensures c.place-at.ensures c.leaf_of-entry.ensures c.zero.ensures c.set_entry.ensures c.take.ensures).0
 
 pub returns : goal.returns
 returns c = record {
   step = λ v. (
     tt,
-    (map_step c.args.self.now c.args.page c.args.rights c.first.result c.entry.result c.origin.result c.place-at.result c.leaf-of-entry.result _ _ c.take.result (pool c.take.new.self)
-        (denied c.if-is-outside.ensures) c.first.ensures c.entry.ensures c.if-entry-ne0.false (omega arith) (c.if-not-is-lawful.ensures.0 refl)
-        c.origin.ensures c.place-at.ensures c.leaf-of-entry.ensures c.zero.ensures c.set-entry.ensures c.take.ensures).1,
+    (map_step c.args.self.now c.args.page c.args.rights c.first.result c.entry.result c.origin.result c.place-at.result c.leaf_of-entry.result _ _ c.take.result (pool c.take.new.self)
+        (denied c.if-is_outside.ensures) c.first.ensures c.entry.ensures c.if-entry-ne0.false (omega arith) (c.if-not-is_lawful.ensures.0 refl)
+        c.origin.ensures c.place-at.ensures c.leaf_of-entry.ensures c.zero.ensures c.set_entry.ensures c.take.ensures).1,
   );
   refused = tt;
 }

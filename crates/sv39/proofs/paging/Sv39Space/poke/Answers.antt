@@ -7,19 +7,19 @@ use Rattle.sv39.proofs.Keeps.{Kept, kept_poke, does_poke}
 use Rattle.sv39.proofs.Facts.{kept, means, owed, denied, held, not_held, lies}
 use Rattle.sv39.proofs.paging.Sv39Space.poke.Goals as goal
 
-pub returns-then-not-is-byte : goal.returns-then-not-is-byte
-returns-then-not-is-byte c =
+pub returns-then-not-is_byte : goal.returns-then-not-is_byte
+returns-then-not-is_byte c =
     let t = c.args.self.now in record {
-      step = λ v. (tt, (byte_unused (means t) c.args.frame c.args.index _ (λ h. not_held t c.args.frame (λ u. denied c.if-not-is-byte.ensures (u, h.1)) h.0) c.refusal.ensures, refl));
+      step = λ v. (tt, (byte_unused (means t) c.args.frame c.args.index _ (λ h. not_held t c.args.frame (λ u. denied c.if-not-is_byte.ensures (u, h.1)) h.0) c.refusal.ensures, refl));
       refused = refl;
     }
 
-pub invariant-of-self : goal.invariant-of-self
-invariant-of-self c =
+pub invariant_of-self : goal.invariant_of-self
+invariant_of-self c =
     let t = c.args.self.now in
     let f = c.args.frame in
     let i = c.args.index in
-    let u = c.if-not-is-byte.ensures.0 refl in
+    let u = c.if-not-is_byte.ensures.0 refl in
     let at : c.place.result + i ≡ place t.figures f i = omega arith in
     let e = c.put.ensures ∙ ap (λ n. set t.tables.memory.now n c.args.byte) at in
     owed _ _ _ (subst (λ m. Kept t.figures m (pool t.frames)) (sym e)
@@ -30,7 +30,7 @@ returns c =
     let t = c.args.self.now in
     let f = c.args.frame in
     let i = c.args.index in
-    let u = c.if-not-is-byte.ensures.0 refl in
+    let u = c.if-not-is_byte.ensures.0 refl in
     let at : c.place.result + i ≡ place t.figures f i = omega arith in
     let e = c.put.ensures ∙ ap (λ n. set t.tables.memory.now n c.args.byte) at in record {
       step = λ v. (
