@@ -6,7 +6,7 @@ pub returns-in_default : goal.returns-in_default
 returns-in_default c =
     let l = c.args.l in
     let b = c.args.file.now in
-    let i = c.loop-i.-i in
+    let i = c.loop-i._i in
     let size : c.loop-i.reader.layout.header.size ≡ l.header.size = ap (λ x. x.header.size) c.loop-i.invariant.1 in
     let same : length c.loop-i.reader.file.now ≡ length b = ap length c.loop-i.invariant.0 in
     let at : c.loop-i.reader.at ≡ phoff l b + l.header.size * i = c.loop-i.invariant.2 in

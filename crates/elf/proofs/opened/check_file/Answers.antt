@@ -5,7 +5,7 @@ use Rattle.elf.proofs.opened.check_file.Goals as goal
 
 pub returns-in_err-check_format : goal.returns-in_err-check_format
 returns-in_err-check_format c =
-    passed_up (open_rules c.args.l c.args.file.now) _ _ c.from-residual.ensures.1
+    passed_up (open_rules c.args.l c.args.file.now) _ _ c.from_residual.ensures.1
     (at_format c.args.l c.args.file.now _ c.in_err-check_format.ensures)
 
 pub check_relocations-requires : goal.check_relocations-requires

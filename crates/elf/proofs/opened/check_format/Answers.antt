@@ -28,34 +28,34 @@ pub returns-in_err-check_identity : goal.returns-in_err-check_identity
 returns-in_err-check_identity c =
     let l = c.args.l in
     let b = c.args.file.now in
-    passed_up (format_rules l b) _ _ c.from-residual.ensures.1 (at_identity l b _ c.in_err-check_identity.ensures)
+    passed_up (format_rules l b) _ _ c.from_residual.ensures.1 (at_identity l b _ c.in_err-check_identity.ensures)
 
 pub returns-in_err-check_kind : goal.returns-in_err-check_kind
 returns-in_err-check_kind c =
     let l = c.args.l in
     let b = c.args.file.now in
-    passed_up (format_rules l b) _ _ c.from-residual-in_err-check_kind.ensures.1
+    passed_up (format_rules l b) _ _ c.from_residual-in_err-check_kind.ensures.1
     (at_kind l b _ c.in_ok-check_identity.ensures c.in_err-check_kind.ensures)
 
 pub returns-in_err-check_sizes : goal.returns-in_err-check_sizes
 returns-in_err-check_sizes c =
     let l = c.args.l in
     let b = c.args.file.now in
-    passed_up (format_rules l b) _ _ c.from-residual-in_err-check_sizes.ensures.1
+    passed_up (format_rules l b) _ _ c.from_residual-in_err-check_sizes.ensures.1
     (at_size l b _ c.in_ok-check_identity.ensures c.in_ok-check_kind.ensures c.in_err-check_sizes.ensures)
 
 pub returns-in_err-check_headers : goal.returns-in_err-check_headers
 returns-in_err-check_headers c =
     let l = c.args.l in
     let b = c.args.file.now in
-    passed_up (format_rules l b) _ _ c.from-residual-in_err-check_headers.ensures.1
+    passed_up (format_rules l b) _ _ c.from_residual-in_err-check_headers.ensures.1
     (at_table l b _ c.in_ok-check_identity.ensures c.in_ok-check_kind.ensures c.in_ok-check_sizes.ensures c.in_err-check_headers.ensures)
 
 pub returns-in_err-check_segments : goal.returns-in_err-check_segments
 returns-in_err-check_segments c =
     let l = c.args.l in
     let b = c.args.file.now in
-    passed_up (format_rules l b) _ _ c.from-residual-in_err-check_segments.ensures.1
+    passed_up (format_rules l b) _ _ c.from_residual-in_err-check_segments.ensures.1
     (at_segments l b _ c.in_ok-check_identity.ensures c.in_ok-check_kind.ensures c.in_ok-check_sizes.ensures c.in_ok-check_headers.ensures c.in_err-check_segments.ensures)
 
 pub returns : goal.returns

@@ -11,7 +11,7 @@ pub returns-in_err-check : goal.returns-in_err-check
 returns-in_err-check c =
     let b = c.args.self.now.opened.file.now in
     let first = subst (λ (x : List ℕ). First (open_rules elf64 x) c.in_err-check.field-0.0) c.bytes.ensures c.in_err-check.ensures in
-    passed_up (load_rules elf64 b c.args.self.now.bias) _ _ c.from-residual.ensures.1 (load_first elf64 b c.args.self.now.bias _ first)
+    passed_up (load_rules elf64 b c.args.self.now.bias) _ _ c.from_residual.ensures.1 (load_first elf64 b c.args.self.now.bias _ first)
 
 pub check_bias-requires : goal.check_bias-requires
 check_bias-requires c =

@@ -8,7 +8,7 @@ use Rattle.image.proofs.plan.Plan.entry.Goals as goal
 
 pub returns-in_err-check : goal.returns-in_err-check
 returns-in_err-check c =
-    handed_up (load_rules elf64 c.args.self.now.opened.file.now c.args.self.now.bias) _ _ _ c.from-residual.ensures.1 c.in_err-check.ensures
+    handed_up (load_rules elf64 c.args.self.now.opened.file.now c.args.self.now.bias) _ _ _ c.from_residual.ensures.1 c.in_err-check.ensures
 
 pub entry_of-requires : goal.entry_of-requires
 entry_of-requires c = (laid c.args.self.now.opened.file.now c.args.self.now.bias c.in_ok-check.ensures).bounded

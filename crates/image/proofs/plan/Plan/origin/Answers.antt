@@ -10,7 +10,7 @@ returns-in_err-segments c =
     let b = c.args.self.now.opened.file.now in
     let bias = c.args.self.now.bias in
     record {
-      origin = handed_up (load_rules elf64 b bias) _ _ _ c.from-residual.ensures.1 c.in_err-segments.ensures.list;
+      origin = handed_up (load_rules elf64 b bias) _ _ _ c.from_residual.ensures.1 c.in_err-segments.ensures.list;
       byte = byte_origin elf64 b bias c.args.address;
     }
 

@@ -11,9 +11,9 @@ use Rattle.image.proofs.plan.Plan.segments.Goals as goal
 
 pub returns-in_err-check : goal.returns-in_err-check
 returns-in_err-check c =
-    let p = err_from_is_err_and c.from-residual.result c.from-residual.ensures.1 in
+    let p = err_from_is_err_and c.from_residual.result c.from_residual.ensures.1 in
     record {
-      list = handed_up (load_rules elf64 c.args.self.now.opened.file.now c.args.self.now.bias) _ _ _ c.from-residual.ensures.1 c.in_err-check.ensures;
+      list = handed_up (load_rules elf64 c.args.self.now.opened.file.now c.args.self.now.bias) _ _ _ c.from_residual.ensures.1 c.in_err-check.ensures;
       ascending = rw p.1 tt;
     }
 
