@@ -56,7 +56,7 @@ impl SegmentTest for HasMemory {
 
 // The first segment that passes the test.
 pub(crate) fn find<T: SegmentTest>(test: &T, segments: &Segments) -> Option<Segment>
-    ensures { result ≡ first_of (passes test.now) (listed segments.now) }
+    ensures { result ≡ first_of (T.passes test.now) (listed segments.now) }
 {
     for i in 0..segments.count {
         let segment = segments.list[i];
