@@ -84,8 +84,8 @@ allowed_lawful r e =
 
 -- A meaning whose pages are booked, with lawful rights, is sound.
 pub booked_sound : (m : Meaning) (es : List ℕ) → m.first + m.count ≤ 2 ^ 26 → m.frames ≤ 65536 → Inside m.first m.count m.page
-    → Below m.frames m.page → Allowed m.page → Owned m.page es → Sound m
-booked_sound m es window few inside below permitted owned = record {
+    → Below m.frames m.page → Allowed m.page → Owned m.page es → ((f i : ℕ) → m.byte f i < 256) → Sound m
+booked_sound m es window few inside below permitted owned bytes = record {
   window = window;
   few = few;
   inside = λ p h e o. let i = inside p h e in elim o [ inl l ↦ omega (arith, i.0) | inr l ↦ omega (arith, i.1) ];
@@ -96,6 +96,7 @@ booked_sound m es window few inside below permitted owned = record {
       let b = owned q k d in
       let c = ap (λ f. slice_index es f) same in
       omega (arith, (inside p h e).1, (inside q k d).1);
+  bytes = bytes;
 }
 
 -- Every frame is free, each naming the next. Without room nothing is said of the buffer.

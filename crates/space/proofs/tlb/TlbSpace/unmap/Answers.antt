@@ -2,7 +2,7 @@ use Rattle.space.proofs.Caches.{agrees_unmap, placed_emptied}
 use Rattle.space.proofs.tlb.TlbSpace.unmap.Goals as goal
 
 pub invariant_of-self : goal.invariant_of-self
-invariant_of-self g c = (placed_emptied c.args.self.now.entries _ c.args.self.now.placed, tt)
+invariant_of-self g c = record { placed = placed_emptied c.args.self.now.entries _ c.args.self.now.placed }
 
 pub returns : goal.returns
 returns g c v =
