@@ -1,7 +1,7 @@
 -- What writes leave of memory. Assumes nothing.
-use Rattle.std.proofs.Common.{◌≡◌, ℕ, ◌+◌, ◌<◌, ◌≤◌, ◌≢◌, ◌⊎◌, List, length, get_or, set, sym, refl, ap, ◌∙◌, inl, inr, ⊎_elim, arith, length-set, get_or-set_other, get_or-set_same}
-use Rattle.std.proofs.lemmas.Bool.{cases_eq}
-use Rattle.space.specs.Memory.{Apart, Zeroed}
+use Rattle.std.proofs.Common.{◌≡◌, ℕ, ◌+◌, ◌-◌, ◌<◌, ◌≤◌, ◌≢◌, ◌⊎◌, List, length, get_or, set, sym, refl, ap, ◌∙◌, inl, inr, ⊎_elim, arith, length-set, get_or-set_other, get_or-set_same}
+use Rattle.std.proofs.lemmas.Bool.{cases_eq, cases_lt}
+use Rattle.space.specs.Memory.{Bytes, Apart, Zeroed}
 
 pub apart_none : (at : ℕ) (xs : List ℕ) → Apart at 0 xs xs
 apart_none at xs = record { long = refl; rest = λ k o. refl }
@@ -37,3 +37,13 @@ zeroed_more at n xs ys z h =
 -- One write after another within the same places.
 pub apart_both : {at n : ℕ} {xs ys zs : List ℕ} → Apart at n xs ys → Apart at n ys zs → Apart at n xs zs
 apart_both a b = record { long = b.long ∙ a.long; rest = λ k o. b.rest k o ∙ a.rest k o }
+
+-- Zeros among bytes are bytes.
+pub bytes_zeroed : (at n : ℕ) (xs ys : List ℕ) → Bytes xs → Zeroed at n xs ys → Bytes ys
+bytes_zeroed at n xs ys bytes z k = ⊎_elim
+    (λ (l : k < at). omega (arith, z.apart.rest k (inl l), bytes k))
+    (λ (h : at ≤ k). ⊎_elim
+    (λ (l : k < at + n). omega (arith, ap (λ j. get_or ys j 0) (let e : at + (k - at) ≡ k = omega arith in e), z.zero (k - at) (omega arith)))
+    (λ (b : at + n ≤ k). omega (arith, z.apart.rest k (inr b), bytes k))
+    (cases_lt k (at + n)))
+    (cases_lt k at)

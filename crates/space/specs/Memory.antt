@@ -1,6 +1,10 @@
 -- What a write leaves of the memory around it. Assumes nothing.
 use Rattle.std.specs.Prelude.{◌≡◌, ℕ, ◌+◌, ◌<◌, ◌≤◌, ◌⊎◌, List, length, slice_index}
 
+-- The memory holds bytes.
+abbrev pub Bytes : List ℕ → Type 0
+Bytes xs = (k : ℕ) → slice_index xs k < 256
+
 -- Outside the n places from `at` on, ys is xs.
 pub record Apart (at n : ℕ) (xs ys : List ℕ) : Type 0 where
   pub long : length ys ≡ length xs

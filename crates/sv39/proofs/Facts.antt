@@ -56,12 +56,37 @@ abbrev pub means : Sv39 → Meaning
 means t = meant t.figures t.frames.total t.tables.memory.now
 
 -- The fields that are owed where a space is made or changed.
-pub owed : (g : Figures) (memory : List ℕ) (x : Pool) → Kept g memory x
-    → (g.gigabyte ≤ 255) × ((g.leaves ≤ 512) × ((g.base % 4096 ≡ 0) × ((x.total ≤ 65536) × ((x.total ≤ length x.entries) × (Whole g x.total (length memory)
-    × (Rooted g memory × (Middled g memory × (Filled g x.total memory × (Owned (page_at g memory) x.entries × (Used x.total (page_at g memory) x.entries
-    × ((chained x.total x.entries x.head x.spare ≡ true) × (Counted (first g) (count g) x.total (page_at g memory) x.spare × Unit {0}))))))))))))
-owed g memory x k =
-    (k.window, (k.high, (k.aligned, (k.booked.few, (k.booked.room, (k.whole, (k.rooted, (k.middled, (k.filled, (k.booked.owned, (k.booked.used, (k.booked.chain, (k.booked.counted, tt)))))))))))))
+pub record Owed (g : Figures) (memory : List ℕ) (x : Pool) : Type 0 where
+  pub window : g.gigabyte ≤ 255
+  pub high : g.leaves ≤ 512
+  pub aligned : g.base % 4096 ≡ 0
+  pub few : x.total ≤ 65536
+  pub room : x.total ≤ length x.entries
+  pub whole : Whole g x.total (length memory)
+  pub rooted : Rooted g memory
+  pub middled : Middled g memory
+  pub filled : Filled g x.total memory
+  pub owned : Owned (page_at g memory) x.entries
+  pub used : Used x.total (page_at g memory) x.entries
+  pub chain : chained x.total x.entries x.head x.spare ≡ true
+  pub counted : Counted (first g) (count g) x.total (page_at g memory) x.spare
+
+pub owed : (g : Figures) (memory : List ℕ) (x : Pool) → Kept g memory x → Owed g memory x
+owed g memory x k = record {
+  window = k.window;
+  high = k.high;
+  aligned = k.aligned;
+  few = k.booked.few;
+  room = k.booked.room;
+  whole = k.whole;
+  rooted = k.rooted;
+  middled = k.middled;
+  filled = k.filled;
+  owned = k.booked.owned;
+  used = k.booked.used;
+  chain = k.booked.chain;
+  counted = k.booked.counted;
+}
 
 -- A page that is not outside the window is inside.
 pub record Within (t : Sv39) (p : ℕ) : Type 0 where
@@ -121,8 +146,8 @@ not_full t some e = let c = t.counted in omega arith
 -- What is taken where frames are free.
 takes_some : (t : Sv39) (p : ℕ) (o : Option ℕ) (y : Pool) → 0 < t.frames.spare → Takes p o (pool t.frames) y → y ≡ taken (pool t.frames) p
 takes_some t p None y some (none, same) =
-    let r = ready (first t.figures) (count t.figures) (page_at t.figures (now t.tables.memory)) (pool t.frames) (kept t).booked some in
-    absurd (⊎_elim (λ (e : t.frames.spare ≡ 0). omega arith) (λ (l : length (now t.frames.entries) ≤ t.frames.head). omega (arith, r.within)) none)
+    let r = ready (first t.figures) (count t.figures) (page_at t.figures t.tables.memory.now) (pool t.frames) (kept t).booked some in
+    absurd (⊎_elim (λ (e : t.frames.spare ≡ 0). omega arith) (λ (l : length t.frames.entries.now ≤ t.frames.head). omega (arith, r.within)) none)
 takes_some t p (Some f) y some d = d.3
 
 -- The entry that was read is the page's.

@@ -65,6 +65,5 @@ pub made : (base gigabyte leaves : ℕ) (m m' : List ℕ) (x y : Pool) → Lawfu
 made base gigabyte leaves m m' x y a total b released = record {
   figures = refl;
   empty = record { first = refl; count = refl; frames = released.total ∙ total; page = none_left (record { base = base; gigabyte = gigabyte; leaves = leaves }) m' b.slots };
-  base = omega (arith, a.aligned);
   tables = tabled (record { base = base; gigabyte = gigabyte; leaves = leaves }) m' y (kept_built base gigabyte leaves m m' x y a total b released) (omega (arith, a.window.1));
 }

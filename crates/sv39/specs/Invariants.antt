@@ -4,10 +4,11 @@ use Rattle.std.proofs.Common.{ap, ◌∙◌, arith}
 use Rattle.std.proofs.lemmas.Bool.{or_parts, ltb-false, leb-false}
 use Rattle.space.specs.declared.parts.Mapping.{Mapping}
 use Rattle.space.specs.Meaning.{Sound}
+use Rattle.space.specs.Memory.{Bytes}
 use Rattle.space.specs.Frames.{allowed, Owned, booked_sound}
 use Rattle.sv39.specs.declared.figures.Figures.{Figures}
 use Rattle.sv39.specs.Entries.{rights_in, pointer, leaf}
-use Rattle.sv39.specs.Tables.{first, count, bottom, origin, word, slot, frame_in, mapping_in, page_at, meant}
+use Rattle.sv39.specs.Tables.{first, count, bottom, origin, word, slot, frame_in, mapping_in, page_at, meant, place}
 
 -- The memory is the tables and the data frames, and ends by 2^56.
 abbrev pub Whole : Figures → ℕ → ℕ → Type 0
@@ -65,9 +66,9 @@ seen g memory p h e =
     }
 
 -- The space is sound.
-pub meant_sound : (g : Figures) (total : ℕ) (memory es : List ℕ) → g.gigabyte ≤ 255 → g.leaves ≤ 512 → total ≤ 65536 → Filled g total memory → Owned (page_at g memory) es
+pub meant_sound : (g : Figures) (total : ℕ) (memory es : List ℕ) → g.gigabyte ≤ 255 → g.leaves ≤ 512 → total ≤ 65536 → Bytes memory → Filled g total memory → Owned (page_at g memory) es
     → Sound (meant g total memory)
-meant_sound g total memory es window high few filled owned =
+meant_sound g total memory es window high few bytes filled owned =
     booked_sound (meant g total memory) es (omega arith) few
     (λ p h e. let s = seen g memory p h e in (s.low, s.high))
     (λ p h e.
@@ -78,3 +79,4 @@ meant_sound g total memory es window high few filled owned =
     let s = seen g memory p h e in
     ap allowed s.entry.rights ∙ (filled (p - first g) (omega (arith, s.low, s.high), s.entry.there)).2)
     owned
+    (λ f i. bytes (place g f i))

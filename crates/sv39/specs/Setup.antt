@@ -23,7 +23,6 @@ pub record LawfulFigures (bytes base gigabyte leaves entries : ℕ) : Type 0 whe
 pub record Made (bytes p gigabyte leaves : ℕ) (g : Figures) (m : Meaning) (memory : List ℕ) : Type 0 where
   pub figures : g ≡ record { base = p; gigabyte = gigabyte; leaves = leaves }
   pub empty : Empty (262144 * gigabyte) (512 * leaves) (bytes / 4096 - (leaves + 2)) m
-  pub base : m.base ≡ p + 4096 * (leaves + 2)
   pub tables : Tables g memory m.page
 
 -- What is made of other figures: a space without pages and frames. Memory and buffer are as they were.

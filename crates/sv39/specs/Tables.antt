@@ -52,7 +52,6 @@ meant g total memory = record {
   first = first g;
   count = count g;
   frames = total;
-  base = 4096 * origin g;
   page = page_at g memory;
   byte = λ f i. slice_index memory (place g f i);
 }

@@ -182,7 +182,7 @@ impl<'a> Sv39<'a> {
 impl<'a> Space for Sv39<'a> {
     ghost meaning = { λ t. meant t.figures t.frames.total t.tables.memory.now };
 
-    ghost sound = { λ t _. meant_sound t.figures t.frames.total t.tables.memory.now t.frames.entries.now t.window t.high t.few t.filled t.owned };
+    ghost sound = { λ t _. meant_sound t.figures t.frames.total t.tables.memory.now t.frames.entries.now t.window t.high t.few t.tables.bytes t.filled t.owned };
 
     fn bounds(&self) -> Bounds {
         Bounds {

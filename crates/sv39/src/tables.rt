@@ -1,6 +1,6 @@
 // Tables in lent memory.
 ghost use Rattle.std.specs.Prelude.{◌≡◌, ◌+◌, ◌*◌, ◌^◌, ◌<◌, ◌≤◌, length, slice_set};
-ghost use Rattle.space.specs.Memory.{Zeroed};
+ghost use Rattle.space.specs.Memory.{Bytes, Zeroed};
 ghost use Rattle.sv39.specs.Setup.{Copied};
 ghost use Rattle.sv39.specs.Tables.{word};
 ghost use Rattle.sv39.specs.Writes.{Written, Built};
@@ -13,6 +13,7 @@ use space::memory::wipe;
 #[derive(Drop)]
 pub struct Tables<'a> {
     pub(crate) memory: &'a mut [u8],
+    ghost bytes: { Bytes memory.now },
 }
 
 impl<'a> Tables<'a> {

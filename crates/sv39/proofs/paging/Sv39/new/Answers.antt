@@ -5,7 +5,8 @@ use Rattle.sv39.proofs.Facts.{owed}
 use Rattle.sv39.proofs.paging.Sv39.new.Goals as goal
 
 pub invariant_of-result : goal.invariant_of-result
-invariant_of-result c = owed _ _ _ (kept_void c.args.memory.now c.args.free.now)
+invariant_of-result c = let k = owed _ _ _ (kept_void c.args.memory.now c.args.free.now) in
+    assumption
 
 pub overflow_cast-frames : goal.overflow_cast-frames
 overflow_cast-frames c = let l = c.in_default.ensures in omega (arith, l.whole.1)
@@ -29,7 +30,8 @@ build-requires c =
 pub invariant_of-result-2 : goal.invariant_of-result-2
 invariant_of-result-2 c =
     let l = c.in_default.ensures in
-    owed _ _ _ (kept_built _ _ _ c.args.memory.now _ _ (pool c.release_all.new.self) l refl c.build.ensures c.release_all.ensures)
+    let k = owed _ _ _ (kept_built _ _ _ c.args.memory.now _ _ (pool c.release_all.new.self) l refl c.build.ensures c.release_all.ensures) in
+    assumption
 
 pub returns : goal.returns
 returns c =

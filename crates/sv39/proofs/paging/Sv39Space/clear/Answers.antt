@@ -6,7 +6,8 @@ use Rattle.sv39.proofs.paging.Sv39Space.clear.Goals as goal
 pub invariant_of-self : goal.invariant_of-self
 invariant_of-self c =
     let t = c.args.self.now in
-    owed _ _ _ (kept_clear t.figures _ (pool t.frames) (kept t) _ (pool c.release_all.new.self) c.zero.ensures c.release_all.ensures)
+    let k = owed _ _ _ (kept_clear t.figures _ (pool t.frames) (kept t) _ (pool c.release_all.new.self) c.zero.ensures c.release_all.ensures) in
+    assumption
 
 pub returns : goal.returns
 returns c v =

@@ -23,9 +23,10 @@ zero-requires c =
 
 pub invariant_of-self : goal.invariant_of-self
 invariant_of-self c =
-    owed _ _ _ (map_step c.args.self.now c.args.page c.args.rights c.first.result c.entry.result c.origin.result c.place-at.result c.leaf_of-entry.result _ _ c.take.result (pool c.take.new.self)
+    let k = owed _ _ _ (map_step c.args.self.now c.args.page c.args.rights c.first.result c.entry.result c.origin.result c.place-at.result c.leaf_of-entry.result _ _ c.take.result (pool c.take.new.self)
     (denied c.if-is_outside.ensures) c.first.ensures c.entry.ensures c.if-entry-ne0.false (omega arith) (c.if-not-is_lawful.ensures.0 refl)
-    c.origin.ensures c.place-at.ensures c.leaf_of-entry.ensures c.zero.ensures c.set_entry.ensures c.take.ensures).0
+    c.origin.ensures c.place-at.ensures c.leaf_of-entry.ensures c.zero.ensures c.set_entry.ensures c.take.ensures).0 in
+    assumption
 
 pub returns : goal.returns
 returns c = record {

@@ -22,8 +22,9 @@ invariant_of-self c =
     let u = c.if-not-is_byte.ensures.0 refl in
     let at : c.place.result + i ≡ place t.figures f i = omega arith in
     let e = c.put.ensures ∙ ap (λ n. set t.tables.memory.now n c.args.byte) at in
-    owed _ _ _ (subst (λ m. Kept t.figures m (pool t.frames)) (sym e)
-    (kept_poke t.figures _ (pool t.frames) (kept t) f i c.args.byte u.1 (omega (arith, lies t f u.0))))
+    let k = owed _ _ _ (subst (λ m. Kept t.figures m (pool t.frames)) (sym e)
+    (kept_poke t.figures _ (pool t.frames) (kept t) f i c.args.byte u.1 (omega (arith, lies t f u.0)))) in
+    assumption
 
 pub returns : goal.returns
 returns c =

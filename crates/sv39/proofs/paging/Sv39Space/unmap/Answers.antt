@@ -13,8 +13,9 @@ overflow_sub-frame c =
 
 pub invariant_of-self : goal.invariant_of-self
 invariant_of-self c =
-    owed _ _ _ (unmap_step c.args.self.now c.args.page c.first.result c.entry-entry.result c.origin.result _ _ (pool c.give.new.self)
-    (denied c.if-is_outside.ensures) c.first.ensures c.entry-entry.ensures (omega arith) c.origin.ensures (omega arith) c.set_entry.ensures c.give.ensures).0
+    let k = owed _ _ _ (unmap_step c.args.self.now c.args.page c.first.result c.entry-entry.result c.origin.result _ _ (pool c.give.new.self)
+    (denied c.if-is_outside.ensures) c.first.ensures c.entry-entry.ensures (omega arith) c.origin.ensures (omega arith) c.set_entry.ensures c.give.ensures).0 in
+    assumption
 
 pub returns : goal.returns
 returns c = record {
