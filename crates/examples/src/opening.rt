@@ -39,10 +39,11 @@ fn patched(patches: &[Patch]) -> [u8; 1024] {
 fn try_case(rt: &impl Abort, case: &Case) -> Result<(), Fail> {
     let file = patched(case.patches);
     let length = case.length.min(1024);
+    let name = case.name;
     match (open(&file[0..length]), case.refusal) {
         (Ok(_), None) => Ok(()),
-        (Ok(_), Some(_)) => Err(Fail::new(case.name)).note("it opened"),
-        (Err(_), None) => Err(Fail::new(case.name)).note("it was refused"),
+        (Ok(_), Some(_)) => Err(Fail::new(format_args!("{name}: it opened"))),
+        (Err(_), None) => Err(Fail::new(format_args!("{name}: it was refused"))),
         (Err(fault), Some(Refusal(reason, record, place))) => {
             assert_eq!(rt; fault.reason, reason, "{}", case.name);
             assert_eq!(rt; fault.record, record, "{}", case.name);
