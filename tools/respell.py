@@ -14,10 +14,12 @@ import sys
 
 # A fact whose new spelling is a type's name already.
 CHOSEN = {"Holds-bytes": "HoldsFileBytes"}
+# Names that a λ or the left side of an equation binds.
+BOUND = ["a-is", "at-is", "e-is", "e₀-is", "f-is", "load-i", "load-k", "no-entry", "no-use", "none-p", "none-q", "none-reach", "not-out"]
 WORD = r"[\w'₀-₉\-]"
 MADE = re.compile(r"\bgoal\.")
 TOP = re.compile(r"^(?:(?:abbrev|unfoldable|pub|record|data)\s+)*([^\s:(){}=,;]+)\s*(?:[({].*?)?:\s*(.*)$")
-FIELD = re.compile(r"^\s+pub ([^\s:]+) :")
+FIELD = re.compile(r"^\s+(?:pub )?([^\s:()]+) :")
 LOCAL = re.compile(r"\blet ([^\s:()=]+) (?::|=)")
 
 
@@ -40,7 +42,7 @@ def snake(name):
 
 def named():
     """The names to turn, each with its new spelling."""
-    turns = {}
+    turns = {a: snake(a) for a in BOUND}
     for f in antts():
         for line in open(f, encoding="utf-8"):
             line = line.rstrip("\n")

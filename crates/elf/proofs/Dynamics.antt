@@ -99,7 +99,7 @@ module _ (l : Layout) (bytes : List ℕ) where
       let limit = x.bounded.readable.headed.sound.file_limit in
       elim (cases_lt 0 (entries l bytes).count) [
         | inl some ↦ let inside = (entries_listed x 0 some).inside in omega arith
-        | inr no-entry ↦
+        | inr no_entry ↦
             elim (cases_Bool (has_dynamic l bytes)) [
               | inl has ↦
                   let first : (entries l bytes).first ≡ (dynamic_table l bytes).first = ap (λ s. s.first) (entries_some has) in

@@ -103,9 +103,9 @@ module _ (l : Layout) (bytes : List ℕ) where
       let h = header l bytes i in
       eqb h.kind 1 && (leb h.vaddr (rela l bytes) && leb (rela l bytes + relasz l bytes) (h.vaddr + h.filesz))
 
-  holds-decides : (i : ℕ) → Decides (holds_test i) (HoldsFileBytes l bytes (rela l bytes) (relasz l bytes) i)
+  holds_decides : (i : ℕ) → Decides (holds_test i) (HoldsFileBytes l bytes (rela l bytes) (relasz l bytes) i)
   unfolding holds_test
-  holds-decides i =
+  holds_decides i =
       let h = header l bytes i in
       let a = eqb h.kind 1 in
       let b = leb h.vaddr (rela l bytes) in
@@ -146,8 +146,8 @@ module _ (l : Layout) (bytes : List ℕ) where
       let r = and_parts c d q.1 in
       (record { address = ltb-true (tagged l bytes 7) n p.0; size = ltb-true (tagged l bytes 8) n q.0; entry = ltb-true (tagged l bytes 9) n r.0 }, ltb-true (table_segment l bytes) (phnum l bytes) r.1)
 
-  has-from : Described l bytes → table_segment l bytes < phnum l bytes → has_table l bytes ≡ true
-  has-from described below =
+  has_from : Described l bytes → table_segment l bytes < phnum l bytes → has_table l bytes ≡ true
+  has_from described below =
       let n = (entries l bytes).count in
       let a = ltb (tagged l bytes 7) n in
       let b = ltb (tagged l bytes 8) n in
@@ -163,16 +163,16 @@ module _ (l : Layout) (bytes : List ℕ) where
   pub table_unheld : ((i : ℕ) → i < phnum l bytes → HoldsFileBytes l bytes (rela l bytes) (relasz l bytes) i → ⊥) → none l.relocation ≡ relocation_table l bytes
   unfolding holds_test table_segment
   table_unheld absent =
-      let end : table_segment l bytes ≡ phnum l bytes = lowest_none holds_test _ (phnum l bytes) holds-decides absent in
+      let end : table_segment l bytes ≡ phnum l bytes = lowest_none holds_test _ (phnum l bytes) holds_decides absent in
       lacking (λ has. let below = (has_parts has).1 in absurd (omega arith))
 
   pub table_held : (i : ℕ) → Described l bytes → Lowest (phnum l bytes) (HoldsFileBytes l bytes (rela l bytes) (relasz l bytes)) i → record { first = (header l bytes i).offset + (rela l bytes - (header l bytes i).vaddr); size = l.relocation; count = relasz l bytes / l.relocation } ≡ relocation_table l bytes
   unfolding holds_test table_segment relocation_table
   table_held i described found =
-      let same : table_segment l bytes ≡ i = lowest_found holds_test _ (phnum l bytes) i holds-decides found in
+      let same : table_segment l bytes ≡ i = lowest_found holds_test _ (phnum l bytes) i holds_decides found in
       let below : table_segment l bytes < phnum l bytes = omega (arith, found.within) in
       let at : ℕ → Table = λ j. record { first = (header l bytes j).offset + (rela l bytes - (header l bytes j).vaddr); size = l.relocation; count = relasz l bytes / l.relocation } in
-      ap at (sym same) ∙ sym (cond-true (has_table l bytes) (at (table_segment l bytes)) (none l.relocation) (has-from described below))
+      ap at (sym same) ∙ sym (cond-true (has_table l bytes) (at (table_segment l bytes)) (none l.relocation) (has_from described below))
 
   -- The same of figures that are known to be the file's, as the code has them.
   pub table_missed : (k a n : ℕ) → k ≡ phnum l bytes → a ≡ rela l bytes → n ≡ relasz l bytes → ((i : ℕ) → i < k → HoldsFileBytes l bytes a n i → ⊥) → none l.relocation ≡ relocation_table l bytes
@@ -201,12 +201,12 @@ module _ (l : Layout) (bytes : List ℕ) where
       omega arith
 
   -- The relocation table lies in the file.
-  segment-holds : has_table l bytes ≡ true → HoldsFileBytes l bytes (rela l bytes) (relasz l bytes) (table_segment l bytes)
+  segment_holds : has_table l bytes ≡ true → HoldsFileBytes l bytes (rela l bytes) (relasz l bytes) (table_segment l bytes)
   unfolding holds_test table_segment
-  segment-holds has =
+  segment_holds has =
       let below = (has_parts has).1 in
       elim (lowest_is holds_test (phnum l bytes)) [
-        | inl mine ↦ (holds-decides (table_segment l bytes)).0 mine.fits
+        | inl mine ↦ (holds_decides (table_segment l bytes)).0 mine.fits
         | inr end ↦ absurd (omega (arith, end.0))
       ]
 
@@ -223,7 +223,7 @@ module _ (l : Layout) (bytes : List ℕ) where
             let e = located has in
             let i = table_segment l bytes in
             let h = header l bytes i in
-            let holds = segment-holds has in
+            let holds = segment_holds has in
             let size = x.bounded.sizes i (has_parts has).1 holds.load in
             let from = holds.from in
             let to = holds.to in

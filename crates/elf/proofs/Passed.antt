@@ -88,27 +88,27 @@ module _ (l : Layout) (b : List ℕ) where
       at_kind first = first_back (identity_rules l b) behind1 f i (first_front (kind_rules l b) behind2 f first)
 
       module _ (k : AllClear (kind_rules l b)) where
-        behind-kind : First behind2 f → First (format_rules l b) f
+        behind_kind : First behind2 f → First (format_rules l b) f
         unfolding format_rules
-        behind-kind first = first_back (identity_rules l b) behind1 f i (first_back (kind_rules l b) behind2 f k first)
+        behind_kind first = first_back (identity_rules l b) behind1 f i (first_back (kind_rules l b) behind2 f k first)
 
         pub at_size : First (size_rules l b) f → First (format_rules l b) f
-        at_size first = behind-kind (first_front (size_rules l b) behind3 f first)
+        at_size first = behind_kind (first_front (size_rules l b) behind3 f first)
 
         module _ (s : AllClear (size_rules l b)) where
           pub at_table : First (table_rules l b) f → First (format_rules l b) f
-          at_table first = behind-kind (first_back (size_rules l b) behind3 f s (first_front (table_rules l b) behind4 f first))
+          at_table first = behind_kind (first_back (size_rules l b) behind3 f s (first_front (table_rules l b) behind4 f first))
 
           module _ (t : AllClear (table_rules l b)) where
-            behind-table : First behind4 f → First (format_rules l b) f
+            behind_table : First behind4 f → First (format_rules l b) f
             unfolding format_rules
-            behind-table first = behind-kind (first_back (size_rules l b) behind3 f s (first_back (table_rules l b) behind4 f t first))
+            behind_table first = behind_kind (first_back (size_rules l b) behind3 f s (first_back (table_rules l b) behind4 f t first))
 
             pub at_segments : First (segment_rules l b) f → First (format_rules l b) f
-            at_segments first = behind-table (first_front (segment_rules l b) (dynamic_rules l b) f first)
+            at_segments first = behind_table (first_front (segment_rules l b) (dynamic_rules l b) f first)
 
             pub at_dynamic : AllClear (segment_rules l b) → First (dynamic_rules l b) f → First (format_rules l b) f
-            at_dynamic g first = behind-table (first_back (segment_rules l b) (dynamic_rules l b) f g first)
+            at_dynamic g first = behind_table (first_back (segment_rules l b) (dynamic_rules l b) f g first)
 
   -- What the last check of the format answers, all groups before it clear.
   pub at_last : {X : Type 0} (r : Result X Fault) → AllClear (identity_rules l b) → AllClear (kind_rules l b) → AllClear (size_rules l b) → AllClear (table_rules l b) → AllClear (segment_rules l b) → Tried (dynamic_rules l b) r → Tried (format_rules l b) r

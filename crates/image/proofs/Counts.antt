@@ -41,9 +41,9 @@ module _ (b : List ℕ) (bias : ℕ) (known : Laid elf64 b bias) where
   unfolding below
   below_more n load = ap (map (segment_of bias)) (below_load elf64 b n load) ∙ map_append (segment_of bias) (loads_below elf64 b n) (header elf64 b n ∷ [])
 
-  below-same : (n : ℕ) → (Load (header elf64 b n) → ⊥) → below (n + 1) ≡ below n
+  below_same : (n : ℕ) → (Load (header elf64 b n) → ⊥) → below (n + 1) ≡ below n
   unfolding below
-  below-same n other = ap (map (segment_of bias)) (below_other elf64 b n other)
+  below_same n other = ap (map (segment_of bias)) (below_other elf64 b n other)
 
   -- Each segment covers at most 2^26 pages.
   few : (n : ℕ) → n ≤ phnum elf64 b → page_count (map (λ s. s.pages) (below n)) ≤ loads elf64 b n * 2 ^ 26
@@ -64,7 +64,7 @@ module _ (b : List ℕ) (bias : ℕ) (known : Laid elf64 b bias) where
             let end = known.ends n le load in
             omega arith
         | inr other ↦
-            let list : below (suc n) ≡ below n = ap below (sym next) ∙ below-same n other in
+            let list : below (suc n) ≡ below n = ap below (sym next) ∙ below_same n other in
             let count = ap (λ (xs : List Segment). page_count (map (λ (s : Segment). s.pages) xs)) list in
             let more : loads elf64 b (suc n) ≡ loads elf64 b n = ap (loads elf64 b) (sym next) ∙ loads_other elf64 b n other in
             let rest = few n (omega arith) in
@@ -88,7 +88,7 @@ module _ (b : List ℕ) (bias : ℕ) (known : Laid elf64 b bias) where
               let list : below (suc n) ≡ below n ++ segment_of bias h ∷ [] = ap below (sym next) ∙ below_more n load in
               ap (first_of test) list ∙ first_none test (below n) (segment_of bias h) (none_below n (omega arith)) (fail n le load)
           | inr other ↦
-              let list : below (suc n) ≡ below n = ap below (sym next) ∙ below-same n other in
+              let list : below (suc n) ≡ below n = ap below (sym next) ∙ below_same n other in
               ap (first_of test) list ∙ none_below n (omega arith)
         ]
 
@@ -149,7 +149,7 @@ module _ (b : List ℕ) (bias : ℕ) (known : Laid elf64 b bias) where
             subst (Each (λ s. s.offset + s.filesz ≤ length b)) (sym list)
             (each_push (λ s. s.offset + s.filesz ≤ length b) (below b bias known n) (segment_of bias h) (inside n (omega arith)) (known.bounded.sizes n le load))
         | inr other ↦
-            let list : below b bias known (suc n) ≡ below b bias known n = ap (below b bias known) (sym next) ∙ below-same b bias known n other in
+            let list : below b bias known (suc n) ≡ below b bias known n = ap (below b bias known) (sym next) ∙ below_same b bias known n other in
             subst (Each (λ s. s.offset + s.filesz ≤ length b)) (sym list) (inside n (omega arith))
       ]
 
@@ -195,7 +195,7 @@ module _ (b : List ℕ) (bias : ℕ) (clear : AllClear (load_rules elf64 b bias)
             let last : P (segment_of bias h) = omega arith in
             subst (Each P) (sym list) (each_push P (below b bias known n) (segment_of bias h) (behind m within load n (omega arith)) last)
         | inr other ↦
-            let list : below b bias known (suc n) ≡ below b bias known n = ap (below b bias known) (sym next) ∙ below-same b bias known n other in
+            let list : below b bias known (suc n) ≡ below b bias known n = ap (below b bias known) (sym next) ∙ below_same b bias known n other in
             subst (Each P) (sym list) (behind m within load n (omega arith))
       ]
 
@@ -213,7 +213,7 @@ module _ (b : List ℕ) (bias : ℕ) (clear : AllClear (load_rules elf64 b bias)
             ∙ map_append (λ (s : Segment). s.pages) (below b bias known n) (segment_of bias h ∷ []) in
             subst Ascending (sym list) (ascending_push (below b bias known n) (pages_of bias h) (ascend n (omega arith)) (behind n le here n (omega arith)))
         | inr other ↦
-            let list : below b bias known (suc n) ≡ below b bias known n = ap (below b bias known) (sym next) ∙ below-same b bias known n other in
+            let list : below b bias known (suc n) ≡ below b bias known n = ap (below b bias known) (sym next) ∙ below_same b bias known n other in
             subst (λ (ss : List Segment). Ascending (map (λ (s : Segment). s.pages) ss)) (sym list) (ascend n (omega arith))
       ]
 

@@ -129,10 +129,10 @@ module _ (l : Layout) (b : List ℕ) where
               record {
                 within = let w = rest.1.within in omega arith;
                 fits = rest.1.fits;
-                highest = λ k more within load-k.
+                highest = λ k more within load_k.
                     elim (cases_lt k n) [
-                      | inl s ↦ rest.1.highest k more s load-k
-                      | inr last ↦ let e : k ≡ n = omega arith in other (subst (λ (m : ℕ). Load (header l b m)) e load-k)
+                      | inl s ↦ rest.1.highest k more s load_k
+                      | inr last ↦ let e : k ≡ n = omega arith in other (subst (λ (m : ℕ). Load (header l b m)) e load_k)
                     ];
               },
               below_other n other ∙ rest.2,
@@ -173,15 +173,15 @@ module _ (l : Layout) (b : List ℕ) where
 
     -- A load header begins behind the end of every load header before it.
     pub begins_behind : (n : ℕ) → n < phnum l b → Load (header l b n) → (i : ℕ) → i < n → Load (header l b i) → last_page (header l b i) < first_page (header l b n)
-    begins_behind n within load i less load-i =
-        let top = highest n i less load-i in
+    begins_behind n within load i less load_i =
+        let top = highest n i less load_i in
         let j = top.0 in
         let behind : last_page (header l b j) < first_page (header l b n) =
         elim (cases_lt (last_page (header l b j)) (first_page (header l b n))) [
           | inl s ↦ s
           | inr bad ↦ absurd (clear n within (load, (j, top.1, bad)))
         ] in
-        let most = ends_ascend n (omega arith) i less load-i in
+        let most = ends_ascend n (omega arith) i less load_i in
         let same = top.2 in
         let pages : last_page (header l b i) ≤ last_page (header l b j) = omega arith in
         omega arith

@@ -8,14 +8,14 @@ use Rattle.image.specs.declared.ranges.PageRange.{PageRange}
 -- The lower answer of two searches is that of the search for either.
 module _ (P Q R : ℕ → Type 0) (split : (p : ℕ) → R p → P p ⊎ Q p) (left : (p : ℕ) → P p → R p) (right : (p : ℕ) → Q p → R p) where
   pub lower_answer : (a b : Option ℕ) → LowestOf P a → LowestOf Q b → LowestOf R (lower_of a b)
-  lower_answer None None none-p none-q = λ p r. elim (split p r) [ inl h ↦ none-p p h | inr h ↦ none-q p h ]
-  lower_answer None (Some b) none-p least = record {
+  lower_answer None None none_p none_q = λ p r. elim (split p r) [ inl h ↦ none_p p h | inr h ↦ none_q p h ]
+  lower_answer None (Some b) none_p least = record {
     holds = right b least.holds;
-    least = λ q below r. elim (split q r) [ inl h ↦ none-p q h | inr h ↦ least.least q below h ];
+    least = λ q below r. elim (split q r) [ inl h ↦ none_p q h | inr h ↦ least.least q below h ];
   }
-  lower_answer (Some a) None least none-q = record {
+  lower_answer (Some a) None least none_q = record {
     holds = left a least.holds;
-    least = λ q below r. elim (split q r) [ inl h ↦ least.least q below h | inr h ↦ none-q q h ];
+    least = λ q below r. elim (split q r) [ inl h ↦ least.least q below h | inr h ↦ none_q q h ];
   }
   lower_answer (Some a) (Some b) first second =
       elim (cases_lt b a) [

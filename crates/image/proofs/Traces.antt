@@ -10,20 +10,20 @@ use Rattle.image.specs.declared.origin.Origin.{Origin}
 use Rattle.image.specs.declared.origin.Origin.TheVariants.{File, Word, Inside, Around}
 
 module _ (l : Layout) (bytes : List ℕ) (bias a : ℕ) where
-  none-reach : (n : ℕ) → ((i : ℕ) → i < n → Reaches l bytes bias a i → ⊥) → last_reaching l bytes bias a n ≡ None
+  none_reach : (n : ℕ) → ((i : ℕ) → i < n → Reaches l bytes bias a i → ⊥) → last_reaching l bytes bias a n ≡ None
   unfolding last_reaching
-  none-reach zero absent = refl
-  none-reach (suc n) absent =
+  none_reach zero absent = refl
+  none_reach (suc n) absent =
       let t = reaches l bias a (relocation_in l bytes (relocation_table l bytes) n) in
       elim (cases_Bool t) [
         | inl hit ↦ absurd (absent n (omega arith) hit)
-        | inr miss ↦ cond-false t (Some n) (last_reaching l bytes bias a n) miss ∙ none-reach n (λ i less. absent i (omega arith))
+        | inr miss ↦ cond-false t (Some n) (last_reaching l bytes bias a n) miss ∙ none_reach n (λ i less. absent i (omega arith))
       ]
 
-  last-reach : (n i : ℕ) → Highest n (Reaches l bytes bias a) i → last_reaching l bytes bias a n ≡ Some i
+  last_reach : (n i : ℕ) → Highest n (Reaches l bytes bias a) i → last_reaching l bytes bias a n ≡ Some i
   unfolding last_reaching
-  last-reach zero i top = absurd (let w = top.within in omega arith)
-  last-reach (suc n) i top =
+  last_reach zero i top = absurd (let w = top.within in omega arith)
+  last_reach (suc n) i top =
       let t = reaches l bias a (relocation_in l bytes (relocation_table l bytes) n) in
       elim (cases_lt i n) [
         | inl less ↦
@@ -31,7 +31,7 @@ module _ (l : Layout) (bytes : List ℕ) (bias a : ℕ) where
               | inl hit ↦ absurd (top.highest n less (omega arith) hit)
               | inr miss ↦
                   cond-false t (Some n) (last_reaching l bytes bias a n) miss
-                  ∙ last-reach n i (record { within = less; fits = top.fits; highest = λ j more within. top.highest j more (omega arith) })
+                  ∙ last_reach n i (record { within = less; fits = top.fits; highest = λ j more within. top.highest j more (omega arith) })
             ]
         | inr last ↦
             let w = top.within in
@@ -41,12 +41,12 @@ module _ (l : Layout) (bytes : List ℕ) (bias a : ℕ) where
       ]
 
   unreached : Unreached l bytes bias a → last_reaching l bytes bias a (relocation_table l bytes).count ≡ None
-  unreached none = none-reach (relocation_table l bytes).count (λ i within hit. none (i, within, hit))
+  unreached none = none_reach (relocation_table l bytes).count (λ i within hit. none (i, within, hit))
 
   pub byte_origin : (o : Origin) → ComesFrom l bytes bias a o → (image_of l bytes bias).byte a ≡ byte_from l bytes bias a o
   unfolding image_of byte_after
   byte_origin (Word i) top =
-      ap (byte_by l bytes bias a (file_byte_by bytes a (first_of (has_file_byte a) (segments_of l bytes bias)))) (last-reach (relocation_table l bytes).count i top)
+      ap (byte_by l bytes bias a (file_byte_by bytes a (first_of (has_file_byte a) (segments_of l bytes bias)))) (last_reach (relocation_table l bytes).count i top)
   byte_origin (File o) (none, (s, found, same)) =
       ap (byte_by l bytes bias a (file_byte_by bytes a (first_of (has_file_byte a) (segments_of l bytes bias)))) (unreached none)
       ∙ ap (file_byte_by bytes a) found ∙ ap (λ (k : ℕ). get_or bytes k 0) (sym same)

@@ -97,10 +97,10 @@ pub record Within (t : Sv39) (p : ℕ) : Type 0 where
   pub page : page_at t.figures t.tables.memory.now p ≡ mapping_in t.figures (slot t.tables.memory.now (p - first t.figures))
 
 pub within : (t : Sv39) (p : ℕ) → (Outside (means t) p → ⊥) → Within t p
-within t p not-out =
-    let low : first t.figures ≤ p = ⊎_elim (λ (l : p < first t.figures). absurd (not-out (inl l))) (λ (l : first t.figures ≤ p). l) (cases_lt p (first t.figures)) in
+within t p not_out =
+    let low : first t.figures ≤ p = ⊎_elim (λ (l : p < first t.figures). absurd (not_out (inl l))) (λ (l : first t.figures ≤ p). l) (cases_lt p (first t.figures)) in
     let high : p < first t.figures + count t.figures =
-    ⊎_elim (λ (l : p < first t.figures + count t.figures). l) (λ (l : first t.figures + count t.figures ≤ p). absurd (not-out (inr l))) (cases_lt p (first t.figures + count t.figures)) in
+    ⊎_elim (λ (l : p < first t.figures + count t.figures). l) (λ (l : first t.figures + count t.figures ≤ p). absurd (not_out (inr l))) (cases_lt p (first t.figures + count t.figures)) in
     let live : 0 < t.figures.leaves = omega arith in
     record { low = low; high = high; live = live; whole = (t.whole live).0; page = page_inside t.figures t.tables.memory.now p low high }
 
@@ -128,7 +128,7 @@ pub held : (t : Sv39) (f : ℕ) → IsUsed (pool t.frames) f → Held (means t) 
 held t f u = used_held (first t.figures) (count t.figures) (means t) (pool t.frames) (kept t).booked f u
 
 pub not_held : (t : Sv39) (f : ℕ) → (IsUsed (pool t.frames) f → ⊥) → Held (means t) f → ⊥
-not_held t f no-use h = no-use (held_used (first t.figures) (count t.figures) (means t) (pool t.frames) (kept t).booked f h)
+not_held t f no_use h = no_use (held_used (first t.figures) (count t.figures) (means t) (pool t.frames) (kept t).booked f h)
 
 -- Where frames are free, the first lies in the memory.
 pub head_lies : (t : Sv39) (p : ℕ) → Within t p → 0 < t.frames.spare → (t.frames.head < t.frames.total) × (place t.figures t.frames.head 0 + 4096 ≤ length t.tables.memory.now)
@@ -152,21 +152,21 @@ takes_some t p (Some f) y some d = d.3
 
 -- The entry that was read is the page's.
 pub entry_is : (t : Sv39) (p a e : ℕ) → a ≡ first t.figures → e ≡ word t.tables.memory.now (1024 + (p - a)) → e ≡ slot t.tables.memory.now (p - first t.figures)
-entry_is t p a e a-is is = is ∙ ap (λ n. word t.tables.memory.now (1024 + (p - n))) a-is
+entry_is t p a e a_is is = is ∙ ap (λ n. word t.tables.memory.now (1024 + (p - n))) a_is
 
 -- A mapping, from what its steps say.
 pub map_step : (t : Sv39) (p r a e₀ o at e : ℕ) (m₁ m₂ : List ℕ) (k : Option ℕ) (y : Pool) → (Outside (means t) p → ⊥) → a ≡ first t.figures → e₀ ≡ word t.tables.memory.now (1024 + (p - a)) → e₀ ≡ 0
     → 0 < t.frames.spare → Lawful r → o ≡ origin t.figures → at ≡ place t.figures t.frames.head 0 → e ≡ leaf ((o + t.frames.head) % 2 ^ 44) r
     → Zeroed at 4096 t.tables.memory.now m₁ → Written (1024 + (p - a)) e m₁ m₂ → Takes p k (pool t.frames) y
     → Kept t.figures m₂ y × Maps p r (Ok tt) (means t) (meant t.figures y.total m₂)
-map_step t p r a e₀ o at e m₁ m₂ k y inside a-is e₀-is none some lawful o_is at-is e-is zeroed written takes =
+map_step t p r a e₀ o at e m₁ m₂ k y inside a_is e₀_is none some lawful o_is at_is e_is zeroed written takes =
     let w = within t p inside in
-    let gone : slot t.tables.memory.now (p - first t.figures) ≡ 0 = sym (entry_is t p a e₀ a-is e₀-is) ∙ none in
-    let z : Zeroed (place t.figures t.frames.head 0) 4096 t.tables.memory.now m₁ = subst (λ n. Zeroed n 4096 t.tables.memory.now m₁) at-is zeroed in
+    let gone : slot t.tables.memory.now (p - first t.figures) ≡ 0 = sym (entry_is t p a e₀ a_is e₀_is) ∙ none in
+    let z : Zeroed (place t.figures t.frames.head 0) 4096 t.tables.memory.now m₁ = subst (λ n. Zeroed n 4096 t.tables.memory.now m₁) at_is zeroed in
     let fits = origin_fits t.figures _ (pool t.frames) (kept t) w.live in
-    let e' = e-is ∙ ap (λ n. leaf n r) (mod-eq_of_lt (omega (arith, (head_lies t p w some).0, o_is))) ∙ ap (λ n. leaf (n + t.frames.head) r) o_is in
+    let e' = e_is ∙ ap (λ n. leaf n r) (mod-eq_of_lt (omega (arith, (head_lies t p w some).0, o_is))) ∙ ap (λ n. leaf (n + t.frames.head) r) o_is in
     let u : Written (1024 + (p - first t.figures)) (leaf (origin t.figures + t.frames.head) r) m₁ m₂ =
-    subst (λ n. Written (1024 + (p - n)) (leaf (origin t.figures + t.frames.head) r) m₁ m₂) a-is (subst (λ n. Written (1024 + (p - a)) n m₁ m₂) e' written) in
+    subst (λ n. Written (1024 + (p - n)) (leaf (origin t.figures + t.frames.head) r) m₁ m₂) a_is (subst (λ n. Written (1024 + (p - a)) n m₁ m₂) e' written) in
     let y_is = takes_some t p k y some takes in (
       subst (Kept t.figures m₂) (sym y_is) (kept_map t.figures _ (pool t.frames) (kept t) p r w.low w.high gone some lawful m₁ m₂ z u),
       (
@@ -179,12 +179,12 @@ map_step t p r a e₀ o at e m₁ m₂ k y inside a-is e₀-is none some lawful 
 pub unmap_step : (t : Sv39) (p a e o f : ℕ) (m₁ : List ℕ) (y : Pool) → (Outside (means t) p → ⊥) → a ≡ first t.figures → e ≡ word t.tables.memory.now (1024 + (p - a)) → 0 < e
     → o ≡ origin t.figures → f ≡ page_in e - o → Written (1024 + (p - a)) 0 t.tables.memory.now m₁ → Gives f (pool t.frames) y
     → Kept t.figures m₁ y × Unmaps p (Ok tt) (means t) (meant t.figures y.total m₁)
-unmap_step t p a e o f m₁ y inside a-is e-is some o_is f-is written gives =
+unmap_step t p a e o f m₁ y inside a_is e_is some o_is f_is written gives =
     let w = within t p inside in
-    let e' = entry_is t p a e a-is e-is in
+    let e' = entry_is t p a e a_is e_is in
     let there : 0 < slot t.tables.memory.now (p - first t.figures) = omega arith in
-    let f' : f ≡ frame_in t.figures (slot t.tables.memory.now (p - first t.figures)) = f-is ∙ ap (λ n. page_in e - n) o_is ∙ ap (frame_in t.figures) e' in
-    let u : Written (1024 + (p - first t.figures)) 0 t.tables.memory.now m₁ = subst (λ n. Written (1024 + (p - n)) 0 t.tables.memory.now m₁) a-is written in
+    let f' : f ≡ frame_in t.figures (slot t.tables.memory.now (p - first t.figures)) = f_is ∙ ap (λ n. page_in e - n) o_is ∙ ap (frame_in t.figures) e' in
+    let u : Written (1024 + (p - first t.figures)) 0 t.tables.memory.now m₁ = subst (λ n. Written (1024 + (p - n)) 0 t.tables.memory.now m₁) a_is written in
     let n = named t p (slot t.tables.memory.now (p - first t.figures)) w refl there in
     let y_is = gives.given (omega (arith, n.1, t.room)) (omega (arith, t.counted, t.few)) ∙ ap (given (pool t.frames)) f' in (
       subst (Kept t.figures m₁) (sym y_is) (kept_unmap t.figures _ (pool t.frames) (kept t) p w.low w.high there m₁ u),

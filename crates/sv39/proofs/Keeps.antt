@@ -159,8 +159,8 @@ module _ (g : Figures) (m : List ℕ) (x : Pool) (k : Kept g m x) (p r : ℕ) (l
   frame_is : frame_in g (leaf (origin g + x.head) r) ≡ x.head
   frame_is = let e = made.frame in omega arith
 
-  mapped-here : page_at g m' p ≡ Some (record { frame = x.head; rights = r })
-  mapped-here =
+  mapped_here : page_at g m' p ≡ Some (record { frame = x.head; rights = r })
+  mapped_here =
       page_here g m₁ m' p _ low high w ∙ mapping_more g (leaf (origin g + x.head) r) made.some
       ∙ ap (λ (n : ℕ). Some (record { frame = n; rights = rights_in (leaf (origin g + x.head) r) })) frame_is
       ∙ ap (λ (n : ℕ). Some (record { frame = x.head; rights = n })) made.rights
@@ -172,7 +172,7 @@ module _ (g : Figures) (m : List ℕ) (x : Pool) (k : Kept g m x) (p r : ℕ) (l
         omega (arith, frame_is, below),
         ap allowed made.rights ∙ lawful_allowed r lawful,
       ))
-      (booked_take (first g) (count g) (page_at g m₁) (page_at g m') x p (record { frame = x.head; rights = r }) kept₁.booked low high gone₁ some refl mapped-here (page_other g m₁ m' p _ low high w))
+      (booked_take (first g) (count g) (page_at g m₁) (page_at g m') x p (record { frame = x.head; rights = r }) kept₁.booked low high gone₁ some refl mapped_here (page_other g m₁ m' p _ low high w))
 
   free : Held (meant g x.total m) x.head → ⊥
   free = head_free (first g) (count g) (meant g x.total m) x k.booked some
@@ -181,7 +181,7 @@ module _ (g : Figures) (m : List ℕ) (x : Pool) (k : Kept g m x) (p r : ℕ) (l
   does_map = record {
     fixed = record { first = refl; count = refl; frames = refl };
     frame = x.head;
-    here = mapped-here;
+    here = mapped_here;
     free = free;
     zeros = λ i s.
         byte_same g m₁ m' p _ low high w (place g x.head i) (omega arith)
@@ -231,18 +231,18 @@ kept_empty g m x y window high aligned few room whole rooted middled none releas
 
 -- The leaf tables are wiped.
 module _ (g : Figures) (m : List ℕ) (x : Pool) (k : Kept g m x) (m' : List ℕ) (y : Pool) (z : Zeroed 8192 (g.leaves * 4096) m m') (released : Released x y) where
-  all-zero : (j : ℕ) → j < count g → slot m' j ≡ 0
-  all-zero j l = word_zeroed z (1024 + j) (omega arith) (omega arith)
+  all_zero : (j : ℕ) → j < count g → slot m' j ≡ 0
+  all_zero j l = word_zeroed z (1024 + j) (omega arith) (omega arith)
 
   pub kept_clear : Kept g m' y
   kept_clear = kept_empty g m' x y k.window k.high k.aligned k.booked.few k.booked.room
       (λ live. let h = k.whole live in let a = z.apart.long in (omega arith, omega arith))
       (λ i t. word_apart z.apart i (inl (omega (arith, t.1))) ∙ k.rooted i t)
       (λ i t. word_apart z.apart (512 + i) (inl (omega (arith, t.1))) ∙ k.middled i t)
-      all-zero released
+      all_zero released
 
   pub does_clear : Cleared (meant g x.total m) (meant g y.total m')
-  does_clear = record { fixed = record { first = refl; count = refl; frames = released.total }; page = none_left g m' all-zero }
+  does_clear = record { fixed = record { first = refl; count = refl; frames = released.total }; page = none_left g m' all_zero }
 
 -- A byte of a data frame is put.
 module _ (g : Figures) (m : List ℕ) (x : Pool) (k : Kept g m x) (f i b : ℕ) (small : i < 4096) (within : place g f i < length m) where

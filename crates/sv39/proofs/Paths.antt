@@ -29,11 +29,11 @@ module _ (m : List ℕ) (base a l t k e : ℕ) (at : t ≡ base + 4096 * k) (ins
   read : le m (t - base + 8 * index l a) 8 ≡ e
   read = ap (λ n. le m n 8) (let d : t - base + 8 * index l a ≡ 8 * (512 * k + index l a) = omega arith in d) ∙ is
 
-  level-zero : e ≡ 0 → Walks m base a (suc l) t (Empty l)
-  level-zero z = level m base a l t e Zero (Empty l) (omega arith) (omega arith) read z refl
+  level_zero : e ≡ 0 → Walks m base a (suc l) t (Empty l)
+  level_zero z = level m base a l t e Zero (Empty l) (omega arith) (omega arith) read z refl
 
-  level-points : (page : ℕ) (w : Walk) → page < 2 ^ 44 → e ≡ pointer page → Walks m base a l (page * 4096) w → Walks m base a (suc l) t w
-  level-points page w h is_pointer on =
+  level_points : (page : ℕ) (w : Walk) → page < 2 ^ 44 → e ≡ pointer page → Walks m base a l (page * 4096) w → Walks m base a (suc l) t w
+  level_points page w h is_pointer on =
       level m base a l t e (Table page) w (omega arith) (omega arith) read (subst (λ n. Says l n (Table page)) (sym is_pointer) (encoded.pointer l page h)) on
 
 -- What a leaf of a data frame gives.
@@ -44,7 +44,7 @@ target g e = record { page = origin g + frame_in g e; rights = rights_in e }
 last : (g : Figures) (m : List ℕ) (a t k e total : ℕ) → t ≡ g.base + 4096 * k → 4096 * k + 4096 ≤ length m → word m (512 * k + index 0 a) ≡ e → origin g + total ≤ 2 ^ 44 → (0 < e → Fine g total e)
     → (o : Option Mapping) → o ≡ mapping_in g e → (a < 2 ^ 39) → ((w : Walk) → Walks m g.base a 1 t w → Walks m g.base a 3 g.base w) → Found g m a o
 last g m a t k zero total at inside is fits fine o o_is small up =
-    subst (Found g m a) (sym o_is) (0, inr (small, up (Empty 0) (level-zero m g.base a 0 t k 0 at inside is refl)))
+    subst (Found g m a) (sym o_is) (0, inr (small, up (Empty 0) (level_zero m g.base a 0 t k 0 at inside is refl)))
 last g m a t k (suc e) total at inside is fits fine o o_is small up =
     let f = fine (omega arith) in
     let says = encoded.leaf (origin g + frame_in g (suc e)) (rights_in (suc e)) (omega (arith, f.1)) (allowed_lawful (rights_in (suc e)) f.2) in
@@ -81,14 +81,14 @@ shown g m x k live a small =
     (λ (eq : index 2 a ≡ g.gigabyte).
     let to_middle = root ∙ cond-true (eqb (index 2 a) g.gigabyte) _ _ (eq-eqb _ _ eq) in
     let down : (w : Walk) → Walks m g.base a 2 (g.base + 4096) w → Walks m g.base a 3 g.base w =
-    λ w on. level-points m g.base a 2 g.base 0 (pointer (bottom g + 1)) (omega arith) (omega arith) to_middle (bottom g + 1) w (omega arith) refl
+    λ w on. level_points m g.base a 2 g.base 0 (pointer (bottom g + 1)) (omega arith) (omega arith) to_middle (bottom g + 1) w (omega arith) refl
     (subst (λ n. Walks m g.base a 2 n w) (let d : g.base + 4096 ≡ (bottom g + 1) * 4096 = omega arith in d) on) in
     let middle = k.middled (index 1 a) (live, omega arith) in
     ⊎_elim
     (λ (l : index 1 a < g.leaves).
     let to_leaf = middle ∙ cond-true (ltb (index 1 a) g.leaves) _ _ (lt-ltb _ _ l) in
     let deep : (w : Walk) → Walks m g.base a 1 (g.base + 4096 * (2 + index 1 a)) w → Walks m g.base a 3 g.base w =
-    λ w on. down w (level-points m g.base a 1 (g.base + 4096) 1 (pointer (bottom g + 2 + index 1 a)) (omega arith) (omega arith) to_leaf (bottom g + 2 + index 1 a) w (omega arith) refl
+    λ w on. down w (level_points m g.base a 1 (g.base + 4096) 1 (pointer (bottom g + 2 + index 1 a)) (omega arith) (omega arith) to_leaf (bottom g + 2 + index 1 a) w (omega arith) refl
     (subst (λ n. Walks m g.base a 1 n w) (let d : g.base + 4096 * (2 + index 1 a) ≡ (bottom g + 2 + index 1 a) * 4096 = omega arith in d) on)) in
     let low : first g ≤ a / 4096 = omega arith in
     let high : a / 4096 < first g + count g = omega arith in
@@ -98,7 +98,7 @@ shown g m x k live a small =
     (λ there. k.filled (a / 4096 - first g) (omega arith, there)) (page_at g m (a / 4096)) (page_inside g m (a / 4096) low high) small deep)
     (λ (l : g.leaves ≤ index 1 a).
     let zero_middle = middle ∙ cond-false (ltb (index 1 a) g.leaves) _ _ (le-ltb _ _ l) in
-    stops g m a 1 small (inr (omega arith)) (down (Empty 1) (level-zero m g.base a 1 (g.base + 4096) 1 0 (omega arith) (omega arith) zero_middle refl)))
+    stops g m a 1 small (inr (omega arith)) (down (Empty 1) (level_zero m g.base a 1 (g.base + 4096) 1 0 (omega arith) (omega arith) zero_middle refl)))
     (cases_lt (index 1 a) g.leaves))
     (λ (ne : index 2 a ≡ g.gigabyte → ⊥).
     let zero_root = root ∙ cond-false (eqb (index 2 a) g.gigabyte) _ _ (ne_eqb _ _ ne) in
@@ -107,5 +107,5 @@ shown g m x k live a small =
     (λ (l : a / 4096 / 262144 < g.gigabyte). inl (omega arith))
     (λ (l : g.gigabyte ≤ a / 4096 / 262144). inr (⊎_elim (λ (e : a / 4096 / 262144 ≡ g.gigabyte). absurd (ne (i2 ∙ e))) (λ (no : a / 4096 / 262144 ≡ g.gigabyte → ⊥). omega (arith, k.high)) (cases_eq (a / 4096 / 262144) g.gigabyte)))
     (cases_lt (a / 4096 / 262144) g.gigabyte))
-    (level-zero m g.base a 2 g.base 0 0 (omega arith) (omega arith) zero_root refl))
+    (level_zero m g.base a 2 g.base 0 0 (omega arith) (omega arith) zero_root refl))
     (cases_eq (index 2 a) g.gigabyte)
