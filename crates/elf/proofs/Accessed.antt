@@ -1,18 +1,15 @@
 -- What the accessors of an opened file find. Assumes nothing.
-use Rattle.std.proofs.Common.{◌≡◌, ℕ, ◌+◌, ◌*◌, ◌/◌, ◌%◌, ◌^◌, ◌<◌, ◌≤◌, Bool, true, cond, eqb, ◌⊎◌, List, length, sym, refl, ap, ◌∙◌, subst, inl, inr, arith, lit<}
-use native.Mathlib.Nat.{div-le_of_le-mul}
-use Rattle.std.proofs.lemmas.Bool.{cases_lt, cases_Bool, cases_eq, both_ways}
+use Rattle.std.proofs.Common.{◌≡◌, ℕ, ◌+◌, ◌*◌, ◌/◌, ◌<◌, ◌≤◌, eqb, List, length, sym, ap, ◌∙◌, subst, inl, inr, arith, lit<}
 use Rattle.std.proofs.lemmas.Bool.Decides.{Decides-eqb}
-use Rattle.faults.specs.Rules.{AllClear, First}
-use Rattle.elf.specs.Layouts.{Sound, elf64}
+use Rattle.faults.specs.Rules.{AllClear}
+use Rattle.elf.specs.Layouts.{Sound}
 use Rattle.elf.specs.Searches.{Lowest}
 use Rattle.elf.specs.Segments.{phnum, header, offset_in}
 use Rattle.elf.specs.Stages.{Readable, Extended, Inside, Listed}
-use Rattle.elf.specs.Dynamic.{IsDynamic, dynamic_header, dynamic_table, entry_in, none, relasz, has_table, relocation_table, format_rules}
+use Rattle.elf.specs.Dynamic.{IsDynamic, dynamic_header, dynamic_table, entry_in, relocation_table, format_rules}
 use Rattle.elf.specs.Files.{HasEntry, Listing}
 use Rattle.elf.specs.declared.layout.Layout.{Layout}
 use Rattle.elf.specs.declared.records.ProgramHeader.{ProgramHeader}
-use Rattle.elf.specs.declared.records.DynamicEntry.{DynamicEntry}
 use Rattle.elf.specs.declared.records.Table.{Table}
 use Rattle.elf.proofs.Lowests.{lowest_found, lowest_none}
 use Rattle.elf.proofs.Passed.{knows_all, groups}

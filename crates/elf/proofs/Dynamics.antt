@@ -1,16 +1,16 @@
 -- The dynamic header and its entries: what the searches of the code find. Assumes nothing.
-use Rattle.std.proofs.Common.{◌≡◌, ℕ, ◌+◌, ◌*◌, ◌/◌, ◌%◌, ◌^◌, ◌<◌, ◌≤◌, Bool, true, false, cond, ◌&&◌, eqb, ltb, ◌⊎◌, List, Some, None, Decides, Option, sym, refl, ap, ◌∙◌, subst, inl, inr, mul-le-mul_left, mul-zero, arith}
+use Rattle.std.proofs.Common.{◌≡◌, ℕ, ◌+◌, ◌*◌, ◌^◌, ◌<◌, ◌≤◌, Bool, true, eqb, ltb, List, Some, None, Decides, Option, sym, refl, ap, ◌∙◌, subst, inl, inr, mul-le-mul_left, mul-zero, arith}
 use native.Mathlib.Nat.{mul-div-le}
 use Rattle.std.specs.Option as options
 use Rattle.std.proofs.lemmas.Bool.{eq-eqb, eqb-true, lt-ltb, ltb-true, and_from, and_parts, cases_Bool, cases_lt, cond-true, cond-false, both_ways}
 use Rattle.std.proofs.lemmas.Bool.Decides.{Decides-eqb}
-use Rattle.elf.specs.Searches.{SomeBelow, Lowest, lowest}
+use Rattle.elf.specs.Searches.{SomeBelow, Lowest}
 use Rattle.elf.specs.Segments.{file_type, phnum, header}
 use Rattle.elf.specs.Dynamic.{IsDynamic, OtherDynamic, BadExtent, BadDynamic, has_dynamic, dynamic_header, dynamic_table, entry_in, entry_count, entries, none, Endless}
 use Rattle.elf.specs.declared.records.Table.{Table}
 use Rattle.elf.specs.Stages.{Inside, Extended, Listed}
 use Rattle.elf.specs.declared.layout.Layout.{Layout}
-use Rattle.elf.proofs.Lowests.{lowest_is, lowest_found, lowest_none, lowest_most}
+use Rattle.elf.proofs.Lowests.{lowest_found, lowest_none, lowest_most}
 
 module _ (l : Layout) (bytes : List ℕ) where
   -- The test of the only dynamic header.

@@ -1,11 +1,11 @@
 -- What is known of a file once a rule is clear. Assumes nothing.
-use Rattle.std.proofs.Common.{◌≡◌, ℕ, ◌+◌, ◌*◌, ◌^◌, ◌<◌, ◌≤◌, ◌⊎◌, List, length, inl, inr, mul-le-mul_right, mul-le-mul_left, arith, lit<}
-use Rattle.std.proofs.lemmas.Bool.{cases_lt, cases_eq}
+use Rattle.std.proofs.Common.{ℕ, ◌+◌, ◌*◌, ◌^◌, ◌<◌, ◌≤◌, List, length, inl, inr, arith, lit<}
+use Rattle.std.proofs.lemmas.Bool.{cases_lt}
 use Rattle.faults.specs.Rules.{Clear}
 use Rattle.faults.specs.declared.fault.Reason.TheVariants.{SegmentSize, SegmentEnd}
 use Rattle.elf.specs.Layouts.{Sound}
 use Rattle.elf.specs.Stages.{Headed, Readable, Bounded}
-use Rattle.elf.specs.Segments.{phoff, phnum, header, headers, Load, bad_length, bad_count, past_end, on_each, BadSize, BadEnd}
+use Rattle.elf.specs.Segments.{phoff, phnum, header, headers, bad_length, bad_count, past_end, on_each, BadSize, BadEnd}
 use Rattle.elf.specs.declared.layout.Layout.{Layout}
 
 module _ (l : Layout) (bytes : List ℕ) where

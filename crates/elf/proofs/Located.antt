@@ -1,14 +1,14 @@
 -- The relocation table: what the searches of the code find. Assumes nothing.
-use Rattle.std.proofs.Common.{◌≡◌, ℕ, ◌+◌, ◌-◌, ◌*◌, ◌/◌, ◌%◌, ◌^◌, ◌<◌, ◌≤◌, Bool, true, false, cond, ◌&&◌, eqb, ltb, leb, ◌⊎◌, List, length, Decides, sym, refl, ap, ◌∙◌, subst, inl, inr, mul-zero, arith}
+use Rattle.std.proofs.Common.{◌≡◌, ℕ, ◌+◌, ◌-◌, ◌*◌, ◌/◌, ◌^◌, ◌<◌, ◌≤◌, Bool, true, ◌&&◌, eqb, ltb, leb, List, length, Decides, sym, refl, ap, ◌∙◌, subst, inl, inr, mul-zero, arith}
 use native.Mathlib.Nat.{mul-div-le, div-le_of_le-mul}
 use Rattle.std.proofs.lemmas.Bool.{eq-eqb, lt-ltb, le-leb, ltb-true, leb-true, eqb-true, and_from, and_parts, cases_Bool, cases_lt, cases_order, cond-true, cond-false, both_ways}
 use Rattle.std.proofs.lemmas.Bool.Decides.{Decides-eqb}
 use Rattle.faults.specs.Rules.{Clear}
 use Rattle.faults.specs.declared.fault.Reason.TheVariants.{DynamicExtent}
 use Rattle.elf.specs.Layouts.{Sound}
-use Rattle.elf.specs.Searches.{SomeBelow, Lowest, lowest}
-use Rattle.elf.specs.Segments.{file_type, phnum, header, headers, on_each, Load}
-use Rattle.elf.specs.Stages.{Inside, Readable, Bounded, Extended, Listed}
+use Rattle.elf.specs.Searches.{SomeBelow, Lowest}
+use Rattle.elf.specs.Segments.{file_type, phnum, header, headers, on_each}
+use Rattle.elf.specs.Stages.{Inside, Bounded, Extended, Listed}
 use Rattle.elf.specs.Dynamic.{IsDynamic, OtherDynamic, BadExtent, BadDynamic, has_dynamic, dynamic_header, entry_in, entries, none, tagged, Stands, Described, value_of, rela, relasz, HoldsFileBytes, BadTable, table_segment, has_table, relocation_table}
 use Rattle.elf.specs.Descriptions.{Tells}
 use Rattle.elf.specs.declared.describe.Description.{Description}

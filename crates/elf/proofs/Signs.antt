@@ -1,5 +1,5 @@
 -- A word read as signed: the checker's reading of the bits agrees with two's complement. Assumes nothing.
-use Rattle.std.proofs.Common.{◌≡◌, ℕ, suc, ◌+◌, ◌-◌, ◌*◌, ◌^◌, ◌<◌, ◌≤◌, true, false, cond, ltb, ℤ, pos, negsuc, sym, refl, ap, ◌∙◌, subst, inl, inr, arith, to_z-of_z, to_z, of_z}
+use Rattle.std.proofs.Common.{◌≡◌, ℕ, suc, ◌-◌, ◌*◌, ◌^◌, ◌<◌, ◌≤◌, ltb, ℤ, pos, negsuc, sym, ap, ◌∙◌, inl, inr, arith, to_z-of_z, to_z, of_z}
 use mir.Syntax.{Width}
 use mir.Val.{bits, hbits}
 use lib.Signed.{mag}

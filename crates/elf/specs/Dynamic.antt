@@ -1,7 +1,6 @@
 -- The dynamic table of a position-independent file, its relocation table, and the rules on them. Assumes nothing.
 use Rattle.std.specs.Prelude.{◌≡◌, ℕ, ◌+◌, ◌-◌, ◌*◌, ◌/◌, ◌%◌, ◌<◌, ◌≤◌, Bool, true, cond, ◌&&◌, ◌⊎◌, List, [], ◌∷◌, ◌++◌, length, ◌==◌, ◌≢◌, nat_eq, nat_le, nat_lt}
-use Rattle.faults.specs.Rules.{Rule, First, AllClear}
-use Rattle.faults.specs.declared.fault.Fault.{Fault}
+use Rattle.faults.specs.Rules.{Rule}
 use Rattle.faults.specs.declared.fault.Reason.TheVariants.{DynamicExtent, DynamicEnd, DynamicTag, RelocationTable, RelocationType, RelocationTarget}
 use Rattle.elf.specs.Searches.{SomeBelow, lowest}
 use Rattle.elf.specs.Records.{entry_at, relocation_at}

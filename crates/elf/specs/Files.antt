@@ -1,5 +1,5 @@
 -- What an opened file is, and what its accessors answer. Assumes nothing.
-use Rattle.std.specs.Prelude.{◌≡◌, ℕ, ◌+◌, ◌*◌, ◌<◌, ◌≤◌, ◌⊎◌, List, length}
+use Rattle.std.specs.Prelude.{◌≡◌, ℕ, ◌+◌, ◌<◌, ◌≤◌, ◌⊎◌, List, length}
 use Rattle.faults.specs.Rules.{First, AllClear}
 use Rattle.faults.specs.declared.fault.Fault.{Fault}
 use Rattle.elf.specs.Segments.{phnum, headers, offset_in}

@@ -1,5 +1,5 @@
 -- Where a class of ELF file keeps its fields. Assumes nothing.
-use Rattle.std.specs.Prelude.{◌≡◌, ℕ, ◌+◌, ◌*◌, ◌^◌, ◌<◌, ◌≤◌, ◌⊎◌}
+use Rattle.std.specs.Prelude.{◌≡◌, ◌+◌, ◌*◌, ◌^◌, ◌<◌, ◌≤◌, ◌⊎◌}
 use Rattle.elf.specs.declared.layout.Layout.{Layout}
 
 -- Every field lies inside its record, and the limits are such that no sum of the reader's overflows.

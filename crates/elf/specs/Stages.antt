@@ -1,9 +1,8 @@
 -- What is known of a file once rules have been tried, for the reader's own functions. Assumes nothing.
 use Rattle.std.specs.Prelude.{◌≡◌, ℕ, ◌+◌, ◌*◌, ◌<◌, ◌≤◌, true, List, length}
 use Rattle.elf.specs.Layouts.{Sound}
-use Rattle.elf.specs.Segments.{Load, header, headers, phoff, phnum, offset_in}
-use Rattle.elf.specs.Dynamic.{has_dynamic, dynamic_header, entry_in}
-use Rattle.elf.specs.declared.records.ProgramHeader.{ProgramHeader}
+use Rattle.elf.specs.Segments.{Load, header, headers, phnum}
+use Rattle.elf.specs.Dynamic.{has_dynamic, dynamic_header}
 use Rattle.elf.specs.declared.layout.Layout.{Layout}
 use Rattle.elf.specs.declared.records.Table.{Table}
 

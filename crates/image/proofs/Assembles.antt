@@ -1,13 +1,11 @@
 -- The file's bytes and then the words in the table's order give the image. Assumes nothing.
-use Rattle.std.proofs.Common.{◌≡◌, ℕ, zero, suc, ◌+◌, ◌*◌, ◌^◌, ◌<◌, ◌≤◌, Bool, true, false, cond, eqb, ◌⊎◌, List, length, Some, None, Option, sym, refl, ap, ◌∙◌, subst, inl, inr, arith}
+use Rattle.std.proofs.Common.{◌≡◌, ℕ, suc, ◌+◌, ◌^◌, ◌<◌, ◌≤◌, cond, List, Some, sym, refl, ap, ◌∙◌, inl, inr, arith}
 use Rattle.std.proofs.lemmas.Bool.{cases_Bool, cases_lt, cond-true, cond-false}
 use Rattle.faults.specs.Rules.{AllClear}
 use Rattle.elf.specs.Layouts.{elf64}
-use Rattle.elf.specs.Segments.{header, phnum}
 use Rattle.elf.specs.Stages.{Inside}
 use Rattle.elf.specs.Dynamic.{relocation_in, relocation_table}
 use Rattle.elf.specs.declared.layout.Layout.{Layout}
-use Rattle.elf.specs.declared.records.Table.{Table}
 use Rattle.elf.proofs.Passed.{relocations_clear}
 use Rattle.elf.proofs.Located.{relocations_inside}
 use Rattle.image.specs.Plans.{load_rules}

@@ -1,9 +1,8 @@
 -- The pages of a file's segments, and the addresses that no segment reaches. Assumes nothing.
-use Rattle.std.proofs.Common.{◌≡◌, ℕ, zero, suc, ◌+◌, ◌-◌, ◌*◌, ◌/◌, ◌%◌, ◌^◌, ◌<◌, ◌≤◌, Bool, true, false, cond, ◌&&◌, ltb, leb, ◌⊎◌, List, [], ◌∷◌, ◌++◌, map, length, Some, None, Option, sym, refl, ap, ◌∙◌, subst, inl, inr, add_assoc, zero-add, add-one, arith, lit<}
+use Rattle.std.proofs.Common.{◌≡◌, ℕ, zero, suc, ◌+◌, ◌*◌, ◌%◌, ◌^◌, ◌<◌, ◌≤◌, Bool, false, ltb, leb, List, [], ◌∷◌, ◌++◌, map, length, Some, None, sym, refl, ap, ◌∙◌, subst, inl, inr, add_assoc, add-one, arith, lit<}
 use Rattle.std.proofs.lemmas.Bool.{cases_Bool, cases_eq, cond-true, cond-false, and_right, le-ltb}
 use Rattle.elf.specs.Layouts.{elf64}
 use Rattle.elf.specs.Segments.{Load, header, phnum, loads, BadOrder}
-use Rattle.elf.specs.declared.records.ProgramHeader.{ProgramHeader}
 use Rattle.image.specs.Pages.{page_count, Above, Ascending}
 use Rattle.image.specs.Plans.{load_rules}
 use Rattle.faults.specs.Rules.{AllClear}

@@ -1,5 +1,5 @@
 -- The first segment of a list that passes a test. Assumes nothing.
-use Rattle.std.proofs.Common.{◌≡◌, ℕ, suc, ◌+◌, ◌<◌, ◌≤◌, Bool, true, false, cond, ◌&&◌, ltb, leb, List, [], ◌∷◌, length, get_or, take, drop, Some, None, Option, sym, refl, ap, ◌∙◌, subst, inl, inr, add-one, arith, drop-cons}
+use Rattle.std.proofs.Common.{◌≡◌, ℕ, suc, ◌+◌, ◌<◌, ◌≤◌, Bool, true, cond, ltb, leb, List, [], ◌∷◌, length, get_or, drop, Some, None, sym, ap, ◌∙◌, subst, inl, inr, add-one, arith, drop-cons}
 use Rattle.std.proofs.lemmas.Bool.{cases_Bool, cond-true, cond-false, and_parts, leb-true, ltb-true}
 use Rattle.std.proofs.lemmas.List.{length-take-le, get_or-take, drop_all}
 use Rattle.image.specs.Prescribed.{first_of, has_file_byte}

@@ -1,7 +1,7 @@
 -- The segments of one header more. Assumes nothing.
-use Rattle.std.proofs.Common.{◌≡◌, ℕ, zero, suc, ◌+◌, ◌*◌, ◌<◌, ◌≤◌, Bool, true, false, cond, eqb, List, [], ◌∷◌, ◌++◌, map, length, sym, refl, ap, ◌∙◌, subst, inl, inr, add-zero, mul-le-mul_left, mul-add, add-one, arith}
+use Rattle.std.proofs.Common.{◌≡◌, ℕ, zero, suc, ◌+◌, ◌<◌, ◌≤◌, eqb, List, [], ◌∷◌, ◌++◌, map, sym, refl, ap, ◌∙◌, subst, inl, inr, add-zero, mul-le-mul_left, mul-add, add-one, arith}
 use Rattle.std.proofs.lemmas.Bool.{eq-eqb, ne_eqb, cond-true, cond-false, cases_lt}
-use Rattle.elf.specs.Segments.{Load, header, headers, phnum, loads, offset_in}
+use Rattle.elf.specs.Segments.{Load, header, phnum, loads}
 use Rattle.elf.specs.Stages.{Readable}
 use Rattle.elf.specs.Files.{HasHeader}
 use Rattle.elf.specs.declared.layout.Layout.{Layout}

@@ -1,5 +1,5 @@
 -- What is known of a file, and of a file at a bias, once the rules are clear. Assumes nothing.
-use Rattle.std.proofs.Common.{◌≡◌, ℕ, zero, suc, ◌+◌, ◌-◌, ◌*◌, ◌/◌, ◌%◌, ◌^◌, ◌<◌, ◌≤◌, Bool, true, false, cond, eqb, ◌⊎◌, List, ◌++◌, length, Result, sym, refl, ap, ◌∙◌, subst, inl, inr, arith, lit<}
+use Rattle.std.proofs.Common.{◌≡◌, ℕ, zero, suc, ◌+◌, ◌^◌, ◌<◌, ◌≤◌, eqb, List, Result, sym, refl, ap, ◌∙◌, subst, inl, inr, arith, lit<}
 use Rattle.std.proofs.lemmas.Bool.{cases_lt, cases_eq, eq-eqb, ne_eqb, cond-true, cond-false}
 use Rattle.faults.specs.Rules.{AllClear, First, Tried}
 use Rattle.faults.specs.declared.fault.Fault.{Fault}
@@ -9,14 +9,13 @@ use Rattle.elf.specs.Bytes.{le}
 use Rattle.elf.specs.Records.{file_header}
 use Rattle.elf.specs.Searches.{Highest}
 use Rattle.elf.specs.Segments.{Load, header, phnum, loads, file_type, entry_point, first_page, last_page, BadOrder}
-use Rattle.elf.specs.Dynamic.{format_rules, relocation_rules, open_rules, relocation_table}
+use Rattle.elf.specs.Dynamic.{format_rules, open_rules, relocation_table}
 use Rattle.elf.specs.Files.{Listing}
 use Rattle.elf.specs.declared.records.Table.{Table}
-use Rattle.elf.specs.Stages.{Readable, Bounded, Extended}
+use Rattle.elf.specs.Stages.{Bounded, Extended}
 use Rattle.elf.specs.declared.layout.Layout.{Layout}
 use Rattle.elf.specs.declared.records.FileHeader.{FileHeader}
-use Rattle.elf.specs.declared.records.ProgramHeader.{ProgramHeader}
-use Rattle.elf.proofs.Passed.{knows_all, groups, format_clear, relocations_clear}
+use Rattle.elf.proofs.Passed.{knows_all, groups, format_clear}
 use Rattle.image.specs.Plans.{end_below, plan_rules, load_rules}
 use Rattle.image.specs.Stages.{Laid}
 

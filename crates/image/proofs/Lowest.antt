@@ -1,8 +1,8 @@
 -- The lowest page of two searches, and what one range more covers. Assumes nothing.
-use Rattle.std.proofs.Common.{◌≡◌, ℕ, ◌+◌, ◌<◌, ◌≤◌, min, ◌⊎◌, List, [], ◌∷◌, ◌++◌, length, get_or, take, Some, None, Option, sym, refl, ap, subst, inl, inr, arith}
+use Rattle.std.proofs.Common.{◌≡◌, ℕ, ◌+◌, ◌<◌, ◌≤◌, min, ◌⊎◌, List, [], ◌∷◌, ◌++◌, length, get_or, take, Some, None, Option, sym, subst, inl, inr, arith}
 use Rattle.std.proofs.lemmas.Bool.{cases_lt}
 use Rattle.std.proofs.lemmas.List.{take_more, take_all}
-use Rattle.image.specs.Pages.{Covers, Covered, Least, LowestOf, lower_of}
+use Rattle.image.specs.Pages.{Covers, Covered, LowestOf, lower_of}
 use Rattle.image.specs.declared.ranges.PageRange.{PageRange}
 
 -- The lower answer of two searches is that of the search for either.

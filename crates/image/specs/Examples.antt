@@ -1,9 +1,8 @@
 -- Worked examples of the definitions. Assumes nothing.
-use Rattle.std.specs.Prelude.{◌≡◌, ℕ, List, [], ◌∷◌, map, negsuc}
+use Rattle.std.specs.Prelude.{◌≡◌, ℕ, [], ◌∷◌, map, negsuc}
 use Rattle.elf.specs.Layouts.{elf64}
 use Rattle.elf.specs.declared.records.ProgramHeader.{ProgramHeader}
 use Rattle.image.specs.Prescribed.{word_of, byte_of, pages_of, rights_of}
-use Rattle.image.specs.declared.ranges.PageRange.{PageRange}
 
 -- A load header at an address, of a size in memory.
 abbrev pub load_at : ℕ → ℕ → ProgramHeader

@@ -1,6 +1,6 @@
 // `inspect check`: whether the loader takes a file.
+use crate::failure::Failure;
 use crate::files::read_file;
-use anyhow::anyhow;
 use elf::opened::{Opened, open};
 use elf::records::ProgramHeader;
 use faults::fault::Fault;
@@ -138,7 +138,7 @@ fn check_file(rt: &HostRuntime, name: &str) -> io::Result<bool> {
     Ok(true)
 }
 
-pub(crate) fn check_files(rt: &HostRuntime, names: Args) -> anyhow::Result<()> {
+pub(crate) fn check_files(rt: &HostRuntime, names: Args) -> Result<(), Failure> {
     let mut some = false;
     let mut all = true;
     for name in names {
@@ -148,10 +148,10 @@ pub(crate) fn check_files(rt: &HostRuntime, names: Args) -> anyhow::Result<()> {
         }
     }
     if !some {
-        return Err(anyhow!("check: no file is named"));
+        return Err("check: no file is named".into());
     }
     if !all {
-        return Err(anyhow!("a file could not be read"));
+        return Err("a file could not be read".into());
     }
     Ok(())
 }

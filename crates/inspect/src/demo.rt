@@ -1,5 +1,6 @@
 // `inspect demo`: a whole task on a module that is part of the program.
 use crate::check::print_answer;
+use crate::failure::Failure;
 use crate::plan::{print_bytes, print_plan};
 use crate::sample::MODULE;
 use elf::opened::{Opened, open};
@@ -23,7 +24,7 @@ fn print_relocations(rt: &impl Print, opened: &Opened) -> io::Result<()> {
 const BIAS: u64 = 0x10000;
 
 // Plans the module and shows its pointer table.
-fn plan_module(rt: &HostRuntime, opened: &Opened) -> anyhow::Result<()> {
+fn plan_module(rt: &HostRuntime, opened: &Opened) -> Result<(), Failure> {
     println!(rt; "planning it at bias {BIAS:#x}")?;
     let plan = Plan::new(opened, BIAS);
     print_plan(rt, "module", &plan)?;
@@ -38,7 +39,7 @@ fn plan_module(rt: &HostRuntime, opened: &Opened) -> anyhow::Result<()> {
 }
 
 // A copy of the module with one byte changed, and what the loader says of it.
-fn damage(rt: &HostRuntime, what: &str, at: usize, byte: u8) -> anyhow::Result<()> {
+fn damage(rt: &HostRuntime, what: &str, at: usize, byte: u8) -> Result<(), Failure> {
     let mut copy = MODULE;
     if at < copy.len() {
         copy[at] = byte;
@@ -48,7 +49,7 @@ fn damage(rt: &HostRuntime, what: &str, at: usize, byte: u8) -> anyhow::Result<(
     Ok(())
 }
 
-pub(crate) fn demonstrate(rt: &HostRuntime) -> anyhow::Result<()> {
+pub(crate) fn demonstrate(rt: &HostRuntime) -> Result<(), Failure> {
     let length = MODULE.len();
     println!(rt; "opening the embedded module, {length} bytes")?;
     print_answer(rt, "module", &MODULE)?;

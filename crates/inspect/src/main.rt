@@ -3,15 +3,16 @@
 
 mod check;
 mod demo;
+mod failure;
 mod files;
 mod numbers;
 mod plan;
 mod sample;
 mod usage;
 
-use anyhow::anyhow;
 use check::check_files;
 use demo::demonstrate;
+use failure::Failure;
 use numbers::number;
 use plan::{plan_file, show_bytes};
 use std::env;
@@ -19,36 +20,36 @@ use std::env::Args;
 use usage::USAGE;
 
 // The next word as a number.
-fn next_number(words: &mut Args) -> anyhow::Result<u64> {
+fn next_number(words: &mut Args) -> Result<u64, Failure> {
     let Some(word) = words.next() else {
-        return Err(anyhow!("too few words: see inspect --help"));
+        return Err("too few words: see inspect --help".into());
     };
     match number(word.as_str()) {
         Some(n) => Ok(n),
-        None => Err(anyhow!("a word is no number: decimal, or hexadecimal after 0x")),
+        None => Err("a word is no number: decimal, or hexadecimal after 0x".into()),
     }
 }
 
 // No word may be left.
-fn finish(words: &mut Args) -> anyhow::Result<()> {
+fn finish(words: &mut Args) -> Result<(), Failure> {
     match words.next() {
-        Some(_) => Err(anyhow!("too many words: see inspect --help")),
+        Some(_) => Err("too many words: see inspect --help".into()),
         None => Ok(()),
     }
 }
 
-fn run_plan(rt: &HostRuntime, mut words: Args) -> anyhow::Result<()> {
+fn run_plan(rt: &HostRuntime, mut words: Args) -> Result<(), Failure> {
     let Some(name) = words.next() else {
-        return Err(anyhow!("plan: no file is named"));
+        return Err("plan: no file is named".into());
     };
     let bias = next_number(&mut words)?;
     finish(&mut words)?;
     plan_file(rt, name.as_str(), bias)
 }
 
-fn run_bytes(rt: &HostRuntime, mut words: Args) -> anyhow::Result<()> {
+fn run_bytes(rt: &HostRuntime, mut words: Args) -> Result<(), Failure> {
     let Some(name) = words.next() else {
-        return Err(anyhow!("bytes: no file is named"));
+        return Err("bytes: no file is named".into());
     };
     let bias = next_number(&mut words)?;
     let address = next_number(&mut words)?;
@@ -57,12 +58,12 @@ fn run_bytes(rt: &HostRuntime, mut words: Args) -> anyhow::Result<()> {
     show_bytes(rt, name.as_str(), bias, address, length)
 }
 
-fn run(rt: &HostRuntime) -> anyhow::Result<()> {
+fn run(rt: &HostRuntime) -> Result<(), Failure> {
     let mut words = env::args(rt)?;
     let _ = words.next();
     let Some(command) = words.next() else {
         rt.eprint(USAGE)?;
-        return Err(anyhow!("no command"));
+        return Err("no command".into());
     };
     match command.as_str() {
         "demo" => demonstrate(rt),
@@ -75,11 +76,11 @@ fn run(rt: &HostRuntime) -> anyhow::Result<()> {
         }
         _ => {
             rt.eprint(USAGE)?;
-            Err(anyhow!("no such command"))
+            Err("no such command".into())
         }
     }
 }
 
-fn main(rt: HostRuntime) -> anyhow::Result<()> {
+fn main(rt: HostRuntime) -> Result<(), Failure> {
     run(&rt)
 }

@@ -1,7 +1,7 @@
 // `inspect plan` and `inspect bytes`: what will stand in memory, and why.
 use crate::check::{letters, print_refused};
+use crate::failure::Failure;
 use crate::files::read_file;
-use anyhow::anyhow;
 use elf::opened::Opened;
 use image::origin::Origin;
 use image::plan::Plan;
@@ -42,9 +42,9 @@ pub(crate) fn print_plan(rt: &impl Print, name: &str, plan: &Plan) -> io::Result
     Ok(())
 }
 
-pub(crate) fn plan_file(rt: &HostRuntime, name: &str, bias: u64) -> anyhow::Result<()> {
+pub(crate) fn plan_file(rt: &HostRuntime, name: &str, bias: u64) -> Result<(), Failure> {
     let Some(bytes) = read_file(rt, name)? else {
-        return Err(anyhow!("the file could not be read"));
+        return Err("the file could not be read".into());
     };
     let opened = Opened::new(bytes.as_slice());
     print_plan(rt, name, &Plan::new(&opened, bias))?;
@@ -134,7 +134,7 @@ pub(crate) fn print_bytes(
     plan: &Plan,
     address: u64,
     length: usize,
-) -> anyhow::Result<()> {
+) -> Result<(), Failure> {
     let mut bytes = vec![in heap; 0u8; length]?;
     let mut origins = vec![in heap; None; length]?;
     if let Err(fault) = plan.bytes(address, bytes.as_mut_slice()) {
@@ -156,12 +156,12 @@ pub(crate) fn show_bytes(
     bias: u64,
     address: u64,
     length: u64,
-) -> anyhow::Result<()> {
+) -> Result<(), Failure> {
     if length > 1 << 20 {
-        return Err(anyhow!("bytes: at most 1048576 bytes at a time"));
+        return Err("bytes: at most 1048576 bytes at a time".into());
     }
     let Some(bytes) = read_file(rt, name)? else {
-        return Err(anyhow!("the file could not be read"));
+        return Err("the file could not be read".into());
     };
     let opened = Opened::new(bytes.as_slice());
     print_bytes(

@@ -1,5 +1,5 @@
 -- The refusals of a space's calls, from what the calls found. Assumes nothing.
-use Rattle.std.proofs.Common.{◌≡◌, ℕ, ◌*◌, ◌<◌, refl, inl, inr, arith, lit<}
+use Rattle.std.proofs.Common.{◌≡◌, ℕ, ◌*◌, ◌<◌, inl, inr, arith, lit<}
 use Rattle.faults.specs.Rules.{single, Clear, Hit, First, AllClear}
 use Rattle.faults.specs.declared.fault.Fault.{Fault}
 use Rattle.faults.specs.declared.fault.Layer.{Layer}

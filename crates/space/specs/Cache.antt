@@ -1,5 +1,5 @@
 -- What the entries of a TLB say of the space below. Assumes nothing.
-use Rattle.std.specs.Prelude.{◌≡◌, ℕ, ◌%◌, ◌<◌, List, Some, None, Option, ◌≢◌, slice_index_or}
+use Rattle.std.specs.Prelude.{◌≡◌, ℕ, ◌%◌, List, Some, None, Option, ◌≢◌, slice_index_or}
 use Rattle.space.specs.declared.tlb.Entry.{Entry}
 use Rattle.space.specs.Meaning.{Meaning}
 use Rattle.space.specs.declared.parts.Mapping.{Mapping}

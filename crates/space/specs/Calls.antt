@@ -1,5 +1,5 @@
 -- What each call on an address space does to its meaning. Assumes nothing.
-use Rattle.std.specs.Prelude.{◌≡◌, ℕ, ◌+◌, ◌*◌, ◌<◌, ◌≤◌, List, [], ◌∷◌, Some, None, Option, Result, MatchResult, ◌≢◌}
+use Rattle.std.specs.Prelude.{◌≡◌, ℕ, ◌*◌, ◌<◌, List, [], ◌∷◌, Some, None, Option, Result, MatchResult, ◌≢◌}
 use Rattle.faults.specs.Rules.{Rule, single, First, AllClear}
 use Rattle.faults.specs.declared.fault.Fault.{Fault}
 use Rattle.faults.specs.declared.fault.Reason.TheVariants.{OutsideWindow, PageMapped, NoRoom, RightsNumber, PageUnmapped, FrameUnused}

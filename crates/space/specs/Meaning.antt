@@ -1,5 +1,5 @@
 -- What an address space means. Assumes nothing.
-use Rattle.std.specs.Prelude.{◌≡◌, ℕ, zero, suc, ◌+◌, ◌*◌, ◌^◌, ◌<◌, ◌≤◌, ◌⊎◌, Some, None, Option}
+use Rattle.std.specs.Prelude.{◌≡◌, ℕ, zero, suc, ◌+◌, ◌^◌, ◌<◌, ◌≤◌, ◌⊎◌, Some, None, Option}
 use Rattle.space.specs.declared.parts.Mapping.{Mapping}
 
 -- First page, page count and number of frames; the frame and rights of a page, where it is mapped; the byte at an index of a frame, for every frame.

@@ -1,11 +1,11 @@
 -- A walk has one end. Assumes nothing.
-use Rattle.std.proofs.Common.{◌≡◌, ℕ, zero, suc, ◌+◌, ◌-◌, ◌*◌, ◌^◌, ◌<◌, ◌≤◌, ◌⊎◌, List, sym, refl, ap, ◌∙◌, subst, inl, inr, ⊎_elim, arith}
+use Rattle.std.proofs.Common.{◌≡◌, ℕ, zero, suc, ◌+◌, ◌-◌, ◌*◌, ◌⊎◌, List, sym, refl, ap, ◌∙◌, subst, inl, inr, ⊎_elim, arith}
 use Rattle.sv39.specs.declared.entry.Entry.{Entry}
 use Rattle.sv39.specs.declared.entry.Entry.TheVariants.{Zero, Invalid, Table, Leaf}
 use Rattle.sv39.specs.declared.entry.Leaf.{Leaf as Target}
 use Rattle.sv39.specs.declared.entry.Walk.{Walk}
-use Rattle.sv39.specs.Entries.{Says, Malformed, Pointing, Aligned, page_in, rights_in}
-use Rattle.sv39.specs.Walks.{le, index, Inside, Finds, Goes, Walks, Ends}
+use Rattle.sv39.specs.Entries.{Says, Malformed, Pointing, Aligned}
+use Rattle.sv39.specs.Walks.{le, index, Finds, Goes, Walks}
 use Rattle.sv39.specs.Examples.{OneEnd}
 
 -- A well-formed entry is valid, so not 0.

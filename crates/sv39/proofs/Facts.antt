@@ -1,19 +1,19 @@
 -- The facts of a space in tables, by name, and as the fields that are owed. Assumes nothing.
-use Rattle.std.proofs.Common.{◌≡◌, ℕ, ◌+◌, ◌-◌, ◌*◌, ◌%◌, ◌^◌, ◌<◌, ◌≤◌, true, false, ◌⊎◌, List, length, Some, None, Ok, Decides, Option, sym, refl, ap, ◌∙◌, subst, inl, inr, ⊎_elim, mod-eq_of_lt, arith}
+use Rattle.std.proofs.Common.{◌≡◌, ℕ, ◌+◌, ◌-◌, ◌*◌, ◌%◌, ◌^◌, ◌<◌, ◌≤◌, true, false, List, length, Some, None, Ok, Decides, Option, sym, refl, ap, ◌∙◌, subst, inl, inr, ⊎_elim, mod-eq_of_lt, arith}
 use Rattle.space.specs.Meaning.{Meaning}
-use Rattle.space.specs.Frames.{Pool, pool, Owned, Used, Counted, Booked, chained, allowed}
+use Rattle.space.specs.Frames.{Pool, pool, Owned, Used, Counted, chained}
 use Rattle.sv39.specs.declared.figures.Figures.{Figures}
 use Rattle.sv39.specs.declared.paging.Sv39.{Sv39}
 use Rattle.sv39.specs.Tables.{first, count, page_at, meant}
 use Rattle.sv39.specs.Invariants.{Whole, Rooted, Middled, Filled, seen}
 use Rattle.std.proofs.lemmas.Bool.{cases_lt, true≢false}
-use Rattle.space.specs.Meaning.{Outside, Held, Lawful, IsMapped, mapped}
-use Rattle.space.specs.Frames.{IsUsed, Takes, Gives, Released}
+use Rattle.space.specs.Meaning.{Outside, Held, Lawful, mapped}
+use Rattle.space.specs.Frames.{IsUsed, Takes, Gives}
 use Rattle.space.specs.Memory.{Zeroed}
 use Rattle.space.specs.Calls.{Mapped, Unmapped, Maps, Unmaps}
 use Rattle.space.proofs.Caches.{some_none}
 use Rattle.space.proofs.Refusals.{map_clear, unmap_clear}
-use Rattle.space.proofs.Bookings.{Ready, ready, held_used, used_held}
+use Rattle.space.proofs.Bookings.{ready, held_used, used_held}
 use Rattle.sv39.specs.Entries.{page_in, rights_in, leaf}
 use Rattle.sv39.specs.Tables.{origin, place, word, slot, frame_in, mapping_in}
 use Rattle.sv39.specs.Writes.{Written}

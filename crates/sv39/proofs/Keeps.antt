@@ -1,16 +1,14 @@
 -- What the calls do to a space in tables, and what they keep. Assumes nothing.
-use Rattle.std.proofs.Common.{◌≡◌, ℕ, zero, suc, ◌+◌, ◌-◌, ◌*◌, ◌/◌, ◌%◌, ◌^◌, ◌<◌, ◌≤◌, true, cond, eqb, ltb, ◌⊎◌, List, length, get_or, set, Some, None, Option, sym, refl, ap, ◌∙◌, subst, inl, inr, ⊎_elim, arith, get_or-set_other, get_or-set_same}
+use Rattle.std.proofs.Common.{◌≡◌, ℕ, ◌+◌, ◌-◌, ◌*◌, ◌%◌, ◌^◌, ◌<◌, ◌≤◌, List, length, get_or, set, Some, None, sym, refl, ap, ◌∙◌, subst, inl, inr, ⊎_elim, arith, get_or-set_other, get_or-set_same}
 use Rattle.std.proofs.lemmas.Bool.{cases_eq, cases_lt}
-use Rattle.space.specs.declared.parts.Mapping.{Mapping}
-use Rattle.space.specs.Meaning.{Meaning, Held, Lawful}
+use Rattle.space.specs.Meaning.{Held, Lawful}
 use Rattle.space.specs.Calls.{Cleared, Mapped, Unmapped, Poked}
 use Rattle.space.specs.Frames.{Pool, mark, allowed, Booked, Released}
 use Rattle.space.specs.Memory.{Apart, Zeroed}
 use Rattle.space.proofs.Bookings.{ready, head_free, booked_take, booked_give, booked_none, booked_same, lawful_allowed}
 use Rattle.space.proofs.Writes.{apart_one}
 use Rattle.sv39.specs.declared.figures.Figures.{Figures}
-use Rattle.sv39.specs.declared.entry.Entry.TheVariants.{Leaf}
-use Rattle.sv39.specs.Entries.{Says, page_in, rights_in, leaf}
+use Rattle.sv39.specs.Entries.{page_in, rights_in, leaf}
 use Rattle.sv39.specs.Tables.{first, count, origin, word, slot, place, frame_in, mapping_in, page_at, meant}
 use Rattle.sv39.specs.Writes.{Written}
 use Rattle.sv39.specs.Invariants.{Whole, Rooted, Middled, Fine, Filled}

@@ -1,12 +1,9 @@
 -- What a set-up makes. Assumes nothing.
-use Rattle.std.proofs.Common.{◌≡◌, ℕ, zero, suc, ◌+◌, ◌-◌, ◌*◌, ◌/◌, ◌%◌, ◌<◌, ◌≤◌, true, false, cond, eqb, ltb, ◌⊎◌, List, length, Some, None, Option, sym, refl, ap, ◌∙◌, subst, inl, inr, ⊎_elim, arith}
+use Rattle.std.proofs.Common.{◌≡◌, ℕ, zero, suc, ◌+◌, ◌-◌, ◌*◌, ◌/◌, ◌<◌, ◌≤◌, eqb, List, length, sym, refl, ap, ◌∙◌, ⊎_elim, arith}
 use Rattle.std.proofs.lemmas.Bool.{cases_eq, eq-eqb, ne_eqb, cond-true, cond-false}
-use Rattle.space.specs.declared.parts.Mapping.{Mapping}
-use Rattle.space.specs.Setups.{Empty}
 use Rattle.space.specs.Frames.{Pool, Released}
 use Rattle.sv39.specs.declared.figures.Figures.{Figures}
-use Rattle.sv39.specs.Entries.{pointer, rights_in, leaf}
-use Rattle.sv39.specs.Tables.{first, count, bottom, origin, word, slot, frame_in, mapping_in, page_at, meant, leaf_for, entry_of, Tables}
+use Rattle.sv39.specs.Tables.{first, count, word, slot, mapping_in, page_at, meant, leaf_for, Tables}
 use Rattle.sv39.specs.Writes.{Built}
 use Rattle.sv39.specs.Invariants.{Fine}
 use Rattle.sv39.specs.Setup.{LawfulFigures, Made}

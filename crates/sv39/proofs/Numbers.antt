@@ -1,5 +1,5 @@
 -- What writes leave of numbers stored in bytes. Assumes nothing.
-use Rattle.std.proofs.Common.{◌≡◌, ℕ, zero, suc, ◌+◌, ◌-◌, ◌*◌, ◌/◌, ◌%◌, ◌^◌, ◌<◌, ◌≤◌, ◌⊎◌, List, length, get_or, sym, refl, ap, ◌∙◌, inl, inr, ⊎_elim, mod-eq_of_lt, mul_comm, pow-suc, zero-mul, arith}
+use Rattle.std.proofs.Common.{◌≡◌, ℕ, zero, suc, ◌+◌, ◌-◌, ◌*◌, ◌/◌, ◌%◌, ◌^◌, ◌<◌, ◌≤◌, ◌⊎◌, List, get_or, sym, refl, ap, ◌∙◌, inl, inr, ⊎_elim, mod-eq_of_lt, mul_comm, pow-suc, zero-mul, arith}
 use native.Mathlib.Nat.{pow-zero, one-le-pow, mod-one, div-div-eq-div-mul}
 use lib.Arith.{mod-mul}
 use Rattle.space.specs.Memory.{Apart, Zeroed}

@@ -1,6 +1,6 @@
 -- The pages that tables give. Assumes nothing.
-use Rattle.std.proofs.Common.{◌≡◌, ℕ, zero, suc, ◌+◌, ◌-◌, ◌*◌, ◌<◌, ◌≤◌, Bool, true, false, cond, ◌||◌, eqb, ltb, leb, ◌⊎◌, List, Some, None, sym, refl, ap, ◌∙◌, inl, inr, ⊎_elim, arith}
-use Rattle.std.proofs.lemmas.Bool.{or_from, or_left, or_right, lt-ltb, le-leb, le-ltb, lt-leb, cond-true, cond-false, ltb-false, leb-false, or_parts}
+use Rattle.std.proofs.Common.{◌≡◌, ℕ, zero, suc, ◌+◌, ◌-◌, ◌<◌, ◌≤◌, ◌||◌, ltb, leb, ◌⊎◌, List, Some, None, refl, ap, ⊎_elim, arith}
+use Rattle.std.proofs.lemmas.Bool.{or_from, or_left, or_right, lt-ltb, le-leb, le-ltb, lt-leb, cond-true, cond-false}
 use Rattle.sv39.specs.declared.figures.Figures.{Figures}
 use Rattle.sv39.specs.Entries.{rights_in}
 use Rattle.sv39.specs.Tables.{first, count, slot, frame_in, mapping_in, page_at}

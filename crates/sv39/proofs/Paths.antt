@@ -1,5 +1,5 @@
 -- Where the walk of an address through a space's tables ends. Assumes nothing.
-use Rattle.std.proofs.Common.{◌≡◌, ℕ, zero, suc, ◌+◌, ◌-◌, ◌*◌, ◌/◌, ◌%◌, ◌^◌, ◌<◌, ◌≤◌, eqb, ltb, ◌⊎◌, List, length, Some, None, Option, sym, refl, ap, ◌∙◌, subst, inl, inr, ⊎_elim, arith}
+use Rattle.std.proofs.Common.{◌≡◌, ℕ, zero, suc, ◌+◌, ◌-◌, ◌*◌, ◌/◌, ◌%◌, ◌^◌, ◌<◌, ◌≤◌, eqb, ltb, ◌⊎◌, List, length, Option, sym, refl, ap, ◌∙◌, subst, inl, inr, ⊎_elim, arith}
 use native.Mathlib.Nat.{div-div-eq-div-mul}
 use Rattle.std.proofs.lemmas.Bool.{cases_eq, cases_lt, eq-eqb, ne_eqb, lt-ltb, le-ltb, cond-true, cond-false}
 use Rattle.space.specs.declared.parts.Mapping.{Mapping}
@@ -10,8 +10,8 @@ use Rattle.sv39.specs.declared.entry.Entry.TheVariants.{Zero, Table, Leaf}
 use Rattle.sv39.specs.declared.entry.Leaf.{Leaf as Target}
 use Rattle.sv39.specs.declared.entry.Walk.{Walk}
 use Rattle.sv39.specs.declared.entry.Walk.TheVariants.{Reached, Empty}
-use Rattle.sv39.specs.Entries.{Says, rights_in, pointer, leaf}
-use Rattle.sv39.specs.Walks.{le, index, Goes, Walks, Ends}
+use Rattle.sv39.specs.Entries.{Says, rights_in, pointer}
+use Rattle.sv39.specs.Walks.{le, index, Goes, Walks}
 use Rattle.sv39.specs.Tables.{first, count, bottom, origin, word, slot, frame_in, mapping_in, page_at, Found, Shows}
 use Rattle.sv39.specs.Invariants.{Fine}
 use Rattle.sv39.proofs.Pages.{page_outside, page_inside}

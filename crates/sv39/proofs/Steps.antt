@@ -1,5 +1,5 @@
 -- A walk one level at a time. Assumes nothing.
-use Rattle.std.proofs.Common.{◌≡◌, ℕ, zero, suc, ◌-◌, ◌*◌, ◌<◌, List, sym, refl, subst, arith}
+use Rattle.std.proofs.Common.{◌≡◌, ℕ, suc, ◌-◌, ◌*◌, ◌<◌, List, sym, refl, subst, arith}
 use Rattle.sv39.specs.declared.entry.Entry.{Entry}
 use Rattle.sv39.specs.declared.entry.Walk.{Walk}
 use Rattle.sv39.specs.declared.entry.Walk.TheVariants.{Fault}

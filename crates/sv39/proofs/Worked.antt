@@ -1,6 +1,5 @@
 -- Entries that are made, and the worked examples. Assumes nothing.
-use Rattle.std.proofs.Common.{◌≡◌, ℕ, ◌+◌, ◌*◌, ◌/◌, ◌^◌, ◌<◌, ◌≤◌, ◌⊎◌, sym, refl, subst, inl, inr, ⊎_elim, arith, lit<}
-use Rattle.space.specs.Meaning.{Lawful}
+use Rattle.std.proofs.Common.{◌≡◌, ℕ, ◌+◌, ◌*◌, ◌/◌, ◌^◌, ◌<◌, ◌≤◌, sym, refl, subst, inl, inr, ⊎_elim, arith, lit<}
 use Rattle.sv39.specs.declared.entry.Entry.TheVariants.{Table, Leaf}
 use Rattle.sv39.specs.Entries.{bit, Malformed, Pointing, Says, pointer, leaf}
 use Rattle.sv39.specs.Examples.{Encoded, Examples}

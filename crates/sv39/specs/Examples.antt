@@ -1,7 +1,7 @@
 -- The laws of entries and walks, and worked examples of the definitions. Assumes nothing.
 use Rattle.std.specs.Prelude.{◌≡◌, ℕ, ◌^◌, ◌<◌, List}
 use Rattle.space.specs.Meaning.{Lawful}
-use Rattle.sv39.specs.declared.entry.Entry.TheVariants.{Zero, Invalid, Table, Leaf}
+use Rattle.sv39.specs.declared.entry.Entry.TheVariants.{Invalid, Table, Leaf}
 use Rattle.sv39.specs.declared.entry.Walk.{Walk}
 use Rattle.sv39.specs.Entries.{Says, pointer as pointer-to, leaf as leaf-of}
 use Rattle.sv39.specs.Walks.{index, Ends}

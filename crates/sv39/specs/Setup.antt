@@ -7,7 +7,7 @@ use Rattle.faults.specs.declared.fault.Layer.TheVariants.{Space}
 use Rattle.space.specs.Setups.{WholeFrames, Window, Roomy, Empty}
 use Rattle.space.specs.Meaning.{Meaning}
 use Rattle.sv39.specs.declared.figures.Figures.{Figures}
-use Rattle.sv39.specs.Tables.{Tables, Shows, meant}
+use Rattle.sv39.specs.Tables.{Tables}
 
 -- The figures that a set-up takes: the memory's bytes, its physical address, the gigabyte, the leaf tables, the entries of the buffer for frames.
 -- There is memory for the tables, it begins at a whole page and ends by 2^56.

@@ -1,7 +1,7 @@
 -- Sv39 tables at the beginning of a memory, and the space that they mean. Assumes nothing.
-use Rattle.std.specs.Prelude.{◌≡◌, ℕ, zero, suc, ◌+◌, ◌-◌, ◌*◌, ◌/◌, ◌%◌, ◌^◌, ◌<◌, ◌≤◌, Bool, cond, ◌||◌, ◌⊎◌, List, length, Some, None, Option, ◌==◌, nat_le, nat_lt, slice_index}
+use Rattle.std.specs.Prelude.{◌≡◌, ℕ, zero, suc, ◌+◌, ◌-◌, ◌*◌, ◌/◌, ◌^◌, ◌<◌, cond, ◌||◌, List, Some, None, Option, ◌==◌, nat_le, nat_lt, slice_index}
 use Rattle.space.specs.declared.parts.Mapping.{Mapping}
-use Rattle.space.specs.Meaning.{Meaning, Lawful}
+use Rattle.space.specs.Meaning.{Meaning}
 use Rattle.sv39.specs.declared.figures.Figures.{Figures}
 use Rattle.sv39.specs.declared.entry.Walk.TheVariants.{Reached, Empty}
 use Rattle.sv39.specs.Entries.{page_in, rights_in, pointer, leaf}

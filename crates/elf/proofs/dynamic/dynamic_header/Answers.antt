@@ -1,4 +1,4 @@
-use Rattle.std.proofs.Common.{sym, ◌∙◌, rules}
+use Rattle.std.proofs.Common.{rules}
 use Rattle.elf.proofs.Dynamics.{dynamic_found}
 use Rattle.elf.proofs.dynamic.dynamic_header.Goals as goal
 

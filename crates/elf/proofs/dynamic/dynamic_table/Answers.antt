@@ -1,7 +1,6 @@
 use Rattle.std.proofs.Common.{◌≡◌, ap, ◌∙◌}
 use Rattle.elf.specs.Segments.{header}
 use Rattle.elf.specs.Dynamic.{dynamic_table, dynamic_header}
-use Rattle.elf.specs.declared.records.ProgramHeader.{ProgramHeader}
 use Rattle.elf.proofs.dynamic.dynamic_table.Goals as goal
 
 pub returns : goal.returns

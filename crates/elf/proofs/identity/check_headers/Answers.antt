@@ -1,6 +1,5 @@
-use Rattle.std.proofs.Common.{◌≡◌, ◌+◌, ◌*◌, ◌<◌, sym, ap, subst, arith}
+use Rattle.std.proofs.Common.{ap}
 use Rattle.elf.specs.Stages.{Readable}
-use Rattle.elf.specs.Segments.{headers}
 use Rattle.elf.proofs.Known.{some, readable, table_ends}
 use Rattle.elf.proofs.identity.check_headers.Goals as goal
 

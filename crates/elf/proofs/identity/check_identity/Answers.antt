@@ -1,4 +1,4 @@
-use Rattle.std.proofs.Common.{◌≤◌, length, arith}
+use Rattle.std.proofs.Common.{arith}
 use Rattle.elf.proofs.Known.{long}
 use Rattle.elf.proofs.identity.check_identity.Goals as goal
 

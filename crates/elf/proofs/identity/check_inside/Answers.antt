@@ -1,4 +1,4 @@
-use Rattle.std.proofs.Common.{◌≡◌, ℕ, ◌+◌, ◌*◌, ◌<◌, ◌≤◌, length, ap, mul-le-mul_left, mul-add, arith, rules}
+use Rattle.std.proofs.Common.{◌≡◌, ◌+◌, ◌*◌, ◌<◌, ◌≤◌, length, ap, mul-le-mul_left, mul-add, arith, rules}
 use Rattle.elf.specs.Segments.{phoff, phnum}
 use Rattle.elf.proofs.identity.check_inside.Goals as goal
 

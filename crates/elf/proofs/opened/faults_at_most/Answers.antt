@@ -1,4 +1,4 @@
-use Rattle.std.proofs.Common.{refl, rules}
+use Rattle.std.proofs.Common.{refl}
 use Rattle.faults.proofs.Families.{decided, in_turn}
 use Rattle.elf.specs.Layouts.{elf64}
 use Rattle.elf.specs.Dynamic.{open_rules, format_rules, relocation_rules}

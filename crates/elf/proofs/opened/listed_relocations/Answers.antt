@@ -1,4 +1,4 @@
-use Rattle.std.proofs.Common.{◌≤◌, sym, refl, ap, subst, inl, inr, arith}
+use Rattle.std.proofs.Common.{◌≤◌, sym, refl, subst, inl, inr, arith}
 use Rattle.elf.specs.declared.records.Table.{Table}
 use Rattle.elf.proofs.Accessed.{count_few}
 use Rattle.elf.proofs.Passed.{knows_all}

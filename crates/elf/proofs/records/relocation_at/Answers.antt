@@ -1,6 +1,5 @@
-use Rattle.std.proofs.Common.{◌≡◌, ◌+◌, ◌*◌, ◌/◌, ◌%◌, ◌∙◌, w64, to_z, of_z}
-use Rattle.elf.specs.Bytes.{le}
-use Rattle.elf.specs.Records.{relocation_at, signed}
+use Rattle.std.proofs.Common.{w64}
+use Rattle.elf.specs.Records.{relocation_at}
 use Rattle.elf.proofs.Signs.{there_and_back}
 use Rattle.elf.proofs.records.relocation_at.Goals as goal
 

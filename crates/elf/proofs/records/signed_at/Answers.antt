@@ -1,4 +1,4 @@
-use Rattle.std.proofs.Common.{◌≡◌, ◌^◌, ◌<◌, sym, refl, ap, ◌∙◌, arith, w32, w64, to_z, of_z}
+use Rattle.std.proofs.Common.{◌≡◌, ◌<◌, sym, refl, ap, ◌∙◌, arith, w32, w64, to_z, of_z}
 use lib.Signed.{mag}
 use Rattle.elf.specs.Bytes.{le}
 use Rattle.elf.specs.Records.{signed}

@@ -1,4 +1,4 @@
-use Rattle.std.proofs.Common.{◌+◌, ◌*◌, ◌≤◌, length, mul-le-mul_left, mul-add, arith}
+use Rattle.std.proofs.Common.{◌+◌, ◌≤◌, mul-le-mul_left, mul-add, arith}
 use Rattle.elf.specs.Segments.{phnum}
 use Rattle.elf.proofs.segments.nth_header.Goals as goal
 

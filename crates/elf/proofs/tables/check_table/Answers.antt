@@ -1,5 +1,4 @@
 use Rattle.std.proofs.Common.{ℕ, ap, ◌∙◌, arith, lit<}
-use Rattle.faults.specs.declared.fault.Fault.{Fault}
 use Rattle.faults.specs.declared.fault.Reason.TheVariants.{RelocationTable}
 use Rattle.faults.specs.declared.fault.Layer.TheVariants.{Open}
 use Rattle.elf.proofs.Located.{no_bad_table}

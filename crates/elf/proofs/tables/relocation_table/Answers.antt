@@ -1,4 +1,4 @@
-use Rattle.std.proofs.Common.{◌/◌, ◌^◌, ◌<◌, ◌≤◌, div-le_self, arith}
+use Rattle.std.proofs.Common.{◌^◌, ◌<◌, ◌≤◌, div-le_self, arith}
 use Rattle.elf.specs.Segments.{phnum}
 use Rattle.elf.proofs.Located.{not_whole, table_undescribed, table_missed, table_found, held_small}
 use Rattle.elf.proofs.tables.relocation_table.Goals as goal

@@ -3,7 +3,7 @@ use Rattle.elf.specs.Layouts.{elf64}
 use Rattle.elf.specs.Dynamic.{relocation_in, relocation_table}
 use Rattle.elf.specs.declared.records.Relocation.{Relocation}
 use Rattle.elf.specs.declared.records.Table.{Table}
-use Rattle.image.specs.Prescribed.{reaches, word_of, byte_of, word_byte, byte_after}
+use Rattle.image.specs.Prescribed.{reaches, word_of, byte_of, byte_after}
 use Rattle.image.proofs.Assembles.{after_word}
 use Rattle.image.proofs.bytes.relocate_nth.Goals as goal
 

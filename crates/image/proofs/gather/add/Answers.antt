@@ -1,6 +1,6 @@
-use Rattle.std.proofs.Common.{◌≡◌, ◌+◌, ◌<◌, ◌≤◌, List, [], ◌∷◌, ◌++◌, sym, ap, ◌∙◌, arith}
+use Rattle.std.proofs.Common.{◌≡◌, ◌+◌, ◌≤◌, [], ◌∷◌, ◌++◌, sym, ap, ◌∙◌, arith}
 use Rattle.elf.specs.Layouts.{elf64}
-use Rattle.elf.specs.Segments.{Load, header, loads, phnum}
+use Rattle.elf.specs.Segments.{Load, header, phnum}
 use Rattle.elf.specs.declared.records.ProgramHeader.{ProgramHeader}
 use Rattle.image.specs.Prescribed.{segment_of}
 use Rattle.image.specs.Stages.{listed}

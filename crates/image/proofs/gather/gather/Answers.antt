@@ -1,4 +1,4 @@
-use Rattle.std.proofs.Common.{◌≡◌, ℕ, List, map, sym, refl, ap, ◌∙◌, subst, arith}
+use Rattle.std.proofs.Common.{◌≡◌, ℕ, map, ap, ◌∙◌, arith}
 use Rattle.elf.specs.Layouts.{elf64}
 use Rattle.elf.specs.Segments.{loads, phnum}
 use Rattle.image.specs.Prescribed.{segment_of, segments_of, loads_below}

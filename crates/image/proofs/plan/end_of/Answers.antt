@@ -1,4 +1,4 @@
-use Rattle.std.proofs.Common.{◌≡◌, ℕ, ◌+◌, cond, eqb, sym, refl, ap, ◌∙◌, add-one}
+use Rattle.std.proofs.Common.{ℕ, ◌+◌, cond, eqb, sym, refl, ap, ◌∙◌, add-one}
 use Rattle.elf.specs.Layouts.{elf64}
 use Rattle.elf.specs.Segments.{header}
 use Rattle.image.specs.Plans.{end_below}

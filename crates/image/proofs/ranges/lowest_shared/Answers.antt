@@ -1,5 +1,5 @@
 use Rattle.std.proofs.Common.{ℕ, ◌+◌, take, Option, sym, subst}
-use Rattle.image.specs.Pages.{Covers, Covered, LowestOf}
+use Rattle.image.specs.Pages.{Covered, LowestOf}
 use Rattle.image.proofs.Lowest.{search_more, search_all, swapped}
 use Rattle.image.proofs.ranges.lowest_shared.Goals as goal
 

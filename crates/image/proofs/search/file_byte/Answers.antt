@@ -1,4 +1,4 @@
-use Rattle.std.proofs.Common.{sym, ◌∙◌}
+use Rattle.std.proofs.Common.{sym}
 use Rattle.image.specs.Prescribed.{has_file_byte}
 use Rattle.image.specs.Stages.{listed}
 use Rattle.image.proofs.Firsts.{first_passes, begins_below}

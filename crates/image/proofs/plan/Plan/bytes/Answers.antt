@@ -1,6 +1,6 @@
-use Rattle.std.proofs.Common.{◌≡◌, ℕ, ◌+◌, List, sym, ap, ◌∙◌, subst, arith}
+use Rattle.std.proofs.Common.{ℕ, ◌+◌, List, sym, ap, ◌∙◌, arith}
 use Rattle.elf.specs.Layouts.{elf64}
-use Rattle.image.specs.Prescribed.{first_of, has_file_byte, file_byte_by, segments_of, byte_after}
+use Rattle.image.specs.Prescribed.{first_of, has_file_byte, file_byte_by, byte_after}
 use Rattle.image.specs.declared.segments.Segment.{Segment}
 use Rattle.elf.specs.declared.records.Table.{Table}
 use Rattle.image.specs.Stages.{listed}

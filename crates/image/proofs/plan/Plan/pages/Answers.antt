@@ -1,4 +1,4 @@
-use Rattle.std.proofs.Common.{◌≡◌, List, map, ap, ◌∙◌, arith}
+use Rattle.std.proofs.Common.{List, map, ap, ◌∙◌, arith}
 use Rattle.image.specs.Pages.{page_count}
 use Rattle.image.specs.Prescribed.{image_of}
 use Rattle.image.specs.declared.segments.Segment.{Segment}

@@ -1,4 +1,4 @@
-use Rattle.std.proofs.Common.{◌≡◌, ◌+◌, ◌*◌, ap, ◌∙◌, subst, mod-eq_of_lt, arith}
+use Rattle.std.proofs.Common.{◌≡◌, ◌+◌, ap, ◌∙◌, subst, mod-eq_of_lt, arith}
 use Rattle.space.proofs.Writes.{apart_both}
 use Rattle.sv39.specs.Entries.{pointer}
 use Rattle.sv39.specs.Writes.{Written, Built}
