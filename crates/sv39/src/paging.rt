@@ -84,13 +84,9 @@ impl<'a> Sv39<'a> {
             head: 0,
             spare: 0,
         };
-        if let Err(_) = Sv39::check(
-            tables.memory.len(),
-            base,
-            gigabyte,
-            leaves,
-            frames.entries.len(),
-        ) {
+        let length = tables.memory.len();
+        let room = frames.entries.len();
+        if let Err(_) = Sv39::check(length, base, gigabyte, leaves, room) {
             return Sv39 {
                 tables,
                 frames,
@@ -101,7 +97,7 @@ impl<'a> Sv39<'a> {
                 },
             };
         }
-        frames.total = (tables.memory.len() / 4096) as u32 - (leaves + 2);
+        frames.total = (length / 4096) as u32 - (leaves + 2);
         tables.build(base / 4096, gigabyte, leaves);
         frames.release_all();
         Sv39 {
