@@ -66,6 +66,26 @@ impl<'a> Sv39<'a> {
 }
 
 impl<'a> Sv39<'a> {
+    // A space without pages and frames. Memory and buffer stay as they are.
+    fn nothing(memory: &'a mut [u8], free: &'a mut [u32]) -> Sv39<'a>
+        ensures { Unmade (meant result.figures result.frames.total result.tables.memory.now) memory.old result.tables.memory.now free.old result.frames.entries.now }
+    {
+        Sv39 {
+            tables: Tables { memory },
+            frames: Frames {
+                entries: free,
+                total: 0,
+                head: 0,
+                spare: 0,
+            },
+            figures: Figures {
+                base: 0,
+                gigabyte: 0,
+                leaves: 0,
+            },
+        }
+    }
+
     // A space with no page mapped. Of figures that the check refuses it has no page and no frame, and leaves memory and buffer alone.
     pub fn new(
         memory: &'a mut [u8],
@@ -77,27 +97,17 @@ impl<'a> Sv39<'a> {
         ensures made { LawfulFigures (length memory.old) base gigabyte leaves (length free.old) → Made (length memory.old) base gigabyte leaves result.figures (meant result.figures result.frames.total result.tables.memory.now) result.tables.memory.now }
         ensures unmade { (LawfulFigures (length memory.old) base gigabyte leaves (length free.old) → ⊥) → Unmade (meant result.figures result.frames.total result.tables.memory.now) memory.old result.tables.memory.now free.old result.frames.entries.now }
     {
+        let length = memory.len();
+        if let Err(_) = Sv39::check(length, base, gigabyte, leaves, free.len()) {
+            return Sv39::nothing(memory, free);
+        }
         let mut tables = Tables { memory };
         let mut frames = Frames {
             entries: free,
-            total: 0,
+            total: (length / 4096) as u32 - (leaves + 2),
             head: 0,
             spare: 0,
         };
-        let length = tables.memory.len();
-        let room = frames.entries.len();
-        if let Err(_) = Sv39::check(length, base, gigabyte, leaves, room) {
-            return Sv39 {
-                tables,
-                frames,
-                figures: Figures {
-                    base: 0,
-                    gigabyte: 0,
-                    leaves: 0,
-                },
-            };
-        }
-        frames.total = (length / 4096) as u32 - (leaves + 2);
         tables.build(base / 4096, gigabyte, leaves);
         frames.release_all();
         Sv39 {

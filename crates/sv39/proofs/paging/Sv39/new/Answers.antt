@@ -1,12 +1,8 @@
 use Rattle.std.proofs.Common.{refl, arith}
 use Rattle.space.specs.Frames.{pool}
-use Rattle.sv39.proofs.Makes.{kept_void, kept_built, made}
+use Rattle.sv39.proofs.Makes.{kept_built, made}
 use Rattle.sv39.proofs.Facts.{owed}
 use Rattle.sv39.proofs.paging.Sv39.new.Goals as goal
-
-pub invariant_of-result : goal.invariant_of-result
-invariant_of-result c = let k = owed _ _ _ (kept_void c.args.memory.now c.args.free.now) in
-    assumption
 
 pub overflow_cast-frames : goal.overflow_cast-frames
 overflow_cast-frames c = let l = c.in_default.ensures in omega (arith, l.whole.1)
@@ -27,8 +23,8 @@ build-requires c =
       reach = omega (arith, l.reach, l.tables, l.aligned);
     }
 
-pub invariant_of-result-2 : goal.invariant_of-result-2
-invariant_of-result-2 c =
+pub invariant_of-result : goal.invariant_of-result
+invariant_of-result c =
     let l = c.in_default.ensures in
     let k = owed _ _ _ (kept_built _ _ _ c.args.memory.now _ _ (pool c.release_all.new.self) l refl c.build.ensures c.release_all.ensures) in
     assumption
