@@ -1,6 +1,7 @@
 pub mod Bytes
 pub mod Layouts
 pub mod Records
+pub mod Kinds
 pub mod Searches
 pub mod Segments
 pub mod Dynamic

@@ -48,6 +48,9 @@ pub struct Layout {
     pub limits: Limits,
 }
 
+// The bytes of a page.
+pub const PAGE: u64 = 4096;
+
 // The largest relocation table, in relocations.
 pub const LARGEST_TABLE: u64 = 65_536;
 

@@ -5,6 +5,7 @@ mod bytes;
 mod describe;
 mod dynamic;
 mod identity;
+pub mod kinds;
 pub mod layout;
 pub mod opened;
 pub mod records;

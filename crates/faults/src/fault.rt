@@ -63,12 +63,28 @@ pub struct Fault {
     pub place: u64,
 }
 
+impl From<Reason> for u8 {
+    ghost from_gives = { λ reason number. number ≡ reason_number reason };
+
+    fn from(reason: Reason) -> u8 {
+        reason as u8
+    }
+}
+
+impl From<Layer> for u8 {
+    ghost from_gives = { λ layer number. number ≡ layer_number layer };
+
+    fn from(layer: Layer) -> u8 {
+        layer as u8
+    }
+}
+
 impl Reason {
     // The number by which the rules, the documents and the programs know this reason.
     pub fn number(self) -> u8
         ensures { result ≡ reason_number self }
     {
-        self as u8
+        u8::from(self)
     }
 }
 
@@ -76,12 +92,20 @@ impl Layer {
     pub fn number(self) -> u8
         ensures { result ≡ layer_number self }
     {
-        match self {
-            Layer::Open => 1,
-            Layer::Plan => 2,
-            Layer::Process => 3,
-            Layer::Space => 4,
-            Layer::Dump => 5,
+        u8::from(self)
+    }
+}
+
+impl Fault {
+    // A refusal that names a place and no record.
+    pub fn new(layer: Layer, reason: Reason, place: u64) -> Fault
+        ensures { result ≡ record { reason = reason; layer = layer; «record» = 0; place = place } }
+    {
+        Fault {
+            reason,
+            layer,
+            record: 0,
+            place,
         }
     }
 }
