@@ -1,5 +1,5 @@
 -- What the accessors of an opened file find. Assumes nothing.
-use Rattle.std.proofs.Common.{◌≡◌, ℕ, ◌+◌, ◌*◌, ◌/◌, ◌<◌, ◌≤◌, eqb, List, length, sym, ap, ◌∙◌, subst, inl, inr, arith, lit<}
+use Rattle.std.proofs.Common.{◌≡◌, ℕ, ◌+◌, ◌*◌, ◌/◌, ◌^◌, ◌<◌, ◌≤◌, eqb, List, length, sym, ap, ◌∙◌, subst, inl, inr, mul-le-mul_left, mul-add, arith, lit<}
 use Rattle.std.proofs.lemmas.Bool.Decides.{Decides-eqb}
 use Rattle.faults.specs.Rules.{AllClear}
 use Rattle.elf.specs.Layouts.{Sound}
@@ -17,20 +17,19 @@ use Rattle.elf.proofs.Located.{relocations_inside, relocations_few}
 
 module _ (l : Layout) (bytes : List ℕ) where
   -- The dynamic header, by what the search finds.
-  pub header_absent : (k : ℕ) → k ≡ phnum l bytes → ((i : ℕ) → i < k → IsDynamic l bytes i → ⊥) → (i : ℕ) → HasEntry l bytes i → ⊥
+  pub header_absent : ((i : ℕ) → i < phnum l bytes → IsDynamic l bytes i → ⊥) → (i : ℕ) → HasEntry l bytes i → ⊥
   unfolding dynamic_header
-  header_absent k e absent i has =
+  header_absent absent i has =
       let end : dynamic_header l bytes ≡ phnum l bytes =
-      lowest_none (λ j. eqb (header l bytes j).kind 2) (IsDynamic l bytes) (phnum l bytes) (λ j. Decides-eqb (header l bytes j).kind 2) (λ j within. absent j (omega arith)) in
+      lowest_none (λ j. eqb (header l bytes j).kind 2) (IsDynamic l bytes) (phnum l bytes) (λ j. Decides-eqb (header l bytes j).kind 2) absent in
       let below = has.dynamic in
       omega arith
 
-  module _ (k d : ℕ) (h : ProgramHeader) (e : k ≡ phnum l bytes) (found : Lowest k (IsDynamic l bytes) d) (same : h ≡ header l bytes d) where
+  module _ (d : ℕ) (h : ProgramHeader) (found : Lowest (phnum l bytes) (IsDynamic l bytes) d) (same : h ≡ header l bytes d) where
     at : dynamic_header l bytes ≡ d
     unfolding dynamic_header
     at =
-        lowest_found (λ j. eqb (header l bytes j).kind 2) (IsDynamic l bytes) (phnum l bytes) d (λ j. Decides-eqb (header l bytes j).kind 2)
-        (subst (λ (n : ℕ). Lowest n (IsDynamic l bytes) d) e found)
+        lowest_found (λ j. eqb (header l bytes j).kind 2) (IsDynamic l bytes) (phnum l bytes) d (λ j. Decides-eqb (header l bytes j).kind 2) found
 
     table : dynamic_table l bytes ≡ record { first = h.offset; size = l.dynamic; count = h.filesz / l.dynamic }
     unfolding dynamic_table
@@ -72,3 +71,13 @@ module _ (l : Layout) (bytes : List ℕ) where
         within = within;
       }
   listing_ready t i sound (inr (_, e)) within = let z : t.count ≡ 0 = ap (λ (s : Table). s.count) e in absurd (omega arith)
+
+  -- Where that relocation lies.
+  pub listed_inside : (t : Table) (i w : ℕ) → Listed l bytes w t i → (t.first + t.size * i + w ≤ length bytes) × (length bytes ≤ 2 ^ 24)
+  listed_inside t i w x =
+      let next : i + 1 ≤ t.count = omega (arith, x.within) in
+      let inside = x.inside in
+      let size = x.size in
+      let short = x.readable.headed.short in
+      let limit = x.readable.headed.sound.file_limit in
+      (omega (arith, mul-le-mul_left t.size next, mul-add t.size i 1), omega arith)

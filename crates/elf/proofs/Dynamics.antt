@@ -1,26 +1,19 @@
 -- The dynamic header and its entries: what the searches of the code find. Assumes nothing.
-use Rattle.std.proofs.Common.{◌≡◌, ℕ, ◌+◌, ◌*◌, ◌^◌, ◌<◌, ◌≤◌, Bool, true, eqb, ltb, List, Some, None, Decides, Option, sym, refl, ap, ◌∙◌, subst, inl, inr, mul-le-mul_left, mul-zero, arith}
+use Rattle.std.proofs.Common.{◌≡◌, ℕ, ◌+◌, ◌*◌, ◌^◌, ◌<◌, ◌≤◌, length, true, eqb, ltb, List, Some, None, Decides, Option, sym, refl, ap, ◌∙◌, subst, inl, inr, mul-le-mul_left, mul-zero, arith}
 use native.Mathlib.Nat.{mul-div-le}
 use Rattle.std.specs.Option as options
-use Rattle.std.proofs.lemmas.Bool.{eq-eqb, eqb-true, lt-ltb, ltb-true, and_from, and_parts, cases_Bool, cases_lt, cond-true, cond-false, both_ways}
+use Rattle.std.proofs.lemmas.Bool.{eq-eqb, eqb-true, lt-ltb, ltb-true, and_from, and_parts, cases_Bool, cond-true, cond-false, both_ways}
 use Rattle.std.proofs.lemmas.Bool.Decides.{Decides-eqb}
-use Rattle.elf.specs.Searches.{SomeBelow, Lowest}
+use Rattle.elf.specs.Layouts.{Sound}
+use Rattle.elf.specs.Searches.{Lowest, FirstOf}
 use Rattle.elf.specs.Segments.{file_type, phnum, header}
-use Rattle.elf.specs.Dynamic.{IsDynamic, OtherDynamic, BadExtent, BadDynamic, has_dynamic, dynamic_header, dynamic_table, entry_in, entry_count, entries, none, Endless}
+use Rattle.elf.specs.Dynamic.{IsDynamic, has_dynamic, dynamic_header, dynamic_table, entry_in, entry_count, entries, none, Endless}
 use Rattle.elf.specs.declared.records.Table.{Table}
-use Rattle.elf.specs.Stages.{Inside, Extended, Listed}
+use Rattle.elf.specs.Stages.{Inside, Readable, Extended, Listed}
 use Rattle.elf.specs.declared.layout.Layout.{Layout}
 use Rattle.elf.proofs.Lowests.{lowest_found, lowest_none, lowest_most}
 
 module _ (l : Layout) (bytes : List ℕ) where
-  -- The test of the only dynamic header.
-  pub dynamic_decides : (i : ℕ) (r : Bool) → file_type bytes ≡ 3 → IsDynamic l bytes i → (SomeBelow i (IsDynamic l bytes) → ⊥) → (SomeBelow (phnum l bytes) (OtherDynamic l bytes i) → ⊥) → Decides r (BadExtent l bytes (header l bytes i)) → Decides r (BadDynamic l bytes i)
-  dynamic_decides i r kind dynamic first alone extent = (
-    λ t. (kind, dynamic, inr (alone, extent.0 t)),
-    λ bad.
-        elim bad.2 [ inl before ↦ absurd (first before) | inr rest ↦ extent.1 rest.1 ],
-  )
-
   -- The dynamic header is the first of the headers of its type.
   pub dynamic_found : (r : Option ℕ) → file_type bytes ≡ 3 → options.MatchOption r ((i : ℕ) → i < phnum l bytes → IsDynamic l bytes i → ⊥) (Lowest (phnum l bytes) (IsDynamic l bytes)) → options.MatchOption r (has_dynamic l bytes ≡ true → ⊥) (λ i. (has_dynamic l bytes ≡ true) × (i ≡ dynamic_header l bytes))
   unfolding dynamic_header
@@ -34,6 +27,13 @@ module _ (l : Layout) (bytes : List ℕ) where
       let same : d ≡ i = lowest_found (λ i. eqb (header l bytes i).kind 2) (IsDynamic l bytes) (phnum l bytes) i (λ j. Decides-eqb (header l bytes j).kind 2) found in
       let below : d < phnum l bytes = omega (arith, found.within) in
       (and_from (eqb (file_type bytes) 3) (ltb d (phnum l bytes)) (eq-eqb (file_type bytes) 3 kind) (lt-ltb d (phnum l bytes) below), sym same)
+
+  -- A table in the file ends so far below 2^64 that the offset of any record does not overflow.
+  pub word_small : Sound l → l.word ≤ 8
+  word_small sound = elim sound.word [ inl four ↦ omega arith | inr eight ↦ omega arith ]
+
+  pub reaches : Readable l bytes → (t : Table) → Inside t bytes → t.size ≤ 64 → t.first + t.size * 2 ^ 32 ≤ 2 ^ 64
+  reaches r t inside small = let short = r.headed.short in let limit = r.headed.sound.file_limit in omega arith
 
   -- The dynamic table lies in the file.
   pub table_size : (dynamic_table l bytes).size ≡ l.dynamic
@@ -74,46 +74,21 @@ module _ (l : Layout) (bytes : List ℕ) where
   count_most = lowest_most _ (dynamic_table l bytes).count
 
   -- The entries that are read lie in the file.
-  pub entries_listed : Extended l bytes → (i : ℕ) → i < (entries l bytes).count → Listed l bytes l.dynamic (entries l bytes) i
-  entries_listed x i within =
+  entries_whole_in : Extended l bytes → Inside (entries l bytes) bytes × ((entries l bytes).size ≡ l.dynamic)
+  entries_whole_in x =
       elim (cases_Bool (has_dynamic l bytes)) [
         | inl has ↦
             let e = entries_some has in
             let t = dynamic_table l bytes in
             let room = table_inside x has in
             let less = mul-le-mul_left l.dynamic count_most in
-            let size = table_size in
-            let same : t.size * t.count ≡ l.dynamic * t.count = ap (λ s. s * t.count) size in
+            let same : t.size * t.count ≡ l.dynamic * t.count = ap (λ s. s * t.count) table_size in
             let inside : Inside (record { first = t.first; size = l.dynamic; count = entry_count l bytes }) bytes = omega arith in
-            record { readable = x.bounded.readable; size = ap (λ s. s.size) e; inside = subst (λ s. Inside s bytes) (sym e) inside; within = within }
+            (subst (λ s. Inside s bytes) (sym e) inside, ap (λ s. s.size) e)
         | inr lacks ↦
             let e = entries_none (λ has. both_ways (has_dynamic l bytes) lacks has) in
-            let zero : 0 ≡ (entries l bytes).count = ap (λ s. s.count) e in
-            absurd (omega arith)
-      ]
-
-  -- The offset past the entries that are read is below 2^64.
-  pub entries_end : Extended l bytes → (entries l bytes).first + (entries l bytes).size * (entries l bytes).count < 2 ^ 64
-  entries_end x =
-      let short = x.bounded.readable.headed.short in
-      let limit = x.bounded.readable.headed.sound.file_limit in
-      elim (cases_lt 0 (entries l bytes).count) [
-        | inl some ↦ let inside = (entries_listed x 0 some).inside in omega arith
-        | inr no_entry ↦
-            elim (cases_Bool (has_dynamic l bytes)) [
-              | inl has ↦
-                  let first : (entries l bytes).first ≡ (dynamic_table l bytes).first = ap (λ s. s.first) (entries_some has) in
-                  let room = table_inside x has in
-                  let empty : (entries l bytes).count ≡ 0 = omega arith in
-                  let product : (entries l bytes).size * (entries l bytes).count ≡ 0 = ap (λ n. (entries l bytes).size * n) empty ∙ mul-zero (entries l bytes).size in
-                  omega arith
-              | inr lacks ↦
-                  let e = entries_none (λ has. both_ways (has_dynamic l bytes) lacks has) in
-                  let first : 0 ≡ (entries l bytes).first = ap (λ s. s.first) e in
-                  let empty : (entries l bytes).count ≡ 0 = omega arith in
-                  let product : (entries l bytes).size * (entries l bytes).count ≡ 0 = ap (λ n. (entries l bytes).size * n) empty ∙ mul-zero (entries l bytes).size in
-                  omega arith
-            ]
+            let inside : 0 + l.dynamic * 0 ≤ length bytes = omega (arith, mul-zero l.dynamic) in
+            (subst (λ s. Inside s bytes) e inside, sym (ap (λ s. s.size) e))
       ]
 
   -- The same of a table that is known to be the dynamic table, as the code has it.
@@ -135,6 +110,10 @@ module _ (l : Layout) (bytes : List ℕ) where
       ∙ ap (λ (k : ℕ). record { first = (dynamic_table l bytes).first; size = l.dynamic; count = k }) end
       ∙ sym (entries_some has)
 
+  pub entries_of : (t : Table) (r : Option ℕ) (n : ℕ) → t ≡ dynamic_table l bytes → has_dynamic l bytes ≡ true → FirstOf t.count (λ i. (entry_in l bytes t i).tag ≡ 0) r → n ≡ options.unwrap_or r t.count → record { first = t.first; size = l.dynamic; count = n } ≡ entries l bytes
+  entries_of t None n e has absent is = ap (λ (k : ℕ). record { first = t.first; size = l.dynamic; count = k }) is ∙ entries_whole t e has absent
+  entries_of t (Some i) n e has found is = ap (λ (k : ℕ). record { first = t.first; size = l.dynamic; count = k }) is ∙ entries_found t i e has found
+
   pub table_listed : (t : Table) → t ≡ dynamic_table l bytes → Extended l bytes → has_dynamic l bytes ≡ true → (i : ℕ) → i < t.count → Listed l bytes l.dynamic t i
   table_listed t e x has i within = record {
     readable = x.bounded.readable;
@@ -153,5 +132,9 @@ module _ (l : Layout) (bytes : List ℕ) where
       )
 
   -- What a scan of the entries needs.
-  pub entries_ready : (t : Table) → t ≡ entries l bytes → Extended l bytes → ((i : ℕ) → i < t.count → Listed l bytes l.dynamic t i) × (t.first + t.size * t.count < 2 ^ 64)
-  entries_ready t e x = subst (λ (s : Table). ((i : ℕ) → i < s.count → Listed l bytes l.dynamic s i) × (s.first + s.size * s.count < 2 ^ 64)) (sym e) (entries_listed x, entries_end x)
+  pub entries_ready : (t : Table) → t ≡ entries l bytes → Extended l bytes → ((i : ℕ) → i < t.count → Listed l bytes l.dynamic t i) × (t.first + t.size * 2 ^ 32 ≤ 2 ^ 64)
+  entries_ready t e x =
+      let whole = entries_whole_in x in
+      let inside : Inside t bytes = subst (λ (s : Table). Inside s bytes) (sym e) whole.0 in
+      let size : t.size ≡ l.dynamic = ap (λ (s : Table). s.size) e ∙ whole.1 in
+      (λ i within. record { readable = x.bounded.readable; size = size; inside = inside; within = within }, reaches x.bounded.readable t inside (omega (arith, size, x.bounded.readable.headed.sound.dynamic, word_small x.bounded.readable.headed.sound)))

@@ -1,5 +1,5 @@
 -- What is known of a file once a rule is clear. Assumes nothing.
-use Rattle.std.proofs.Common.{ℕ, ◌+◌, ◌*◌, ◌^◌, ◌<◌, ◌≤◌, List, length, inl, inr, arith, lit<}
+use Rattle.std.proofs.Common.{ℕ, ◌+◌, ◌*◌, ◌<◌, ◌≤◌, List, length, inl, inr, arith, lit<}
 use Rattle.std.proofs.lemmas.Bool.{cases_lt}
 use Rattle.faults.specs.Rules.{Clear}
 use Rattle.faults.specs.declared.fault.Reason.TheVariants.{SegmentSize, SegmentEnd}
@@ -42,7 +42,3 @@ module _ (l : Layout) (bytes : List ℕ) where
     ends = λ i within load.
         elim (cases_lt l.end ((header l bytes i).vaddr + (header l bytes i).memsz)) [ inl past ↦ absurd (ends i within (load, past)) | inr s ↦ s ];
   }
-
-  -- The table of program headers ends below 2^64.
-  pub table_ends : Readable l bytes → phoff l bytes + l.header.size * phnum l bytes < 2 ^ 64
-  table_ends r = let a = r.inside in let b = r.headed.short in let c = r.headed.sound.file_limit in omega arith

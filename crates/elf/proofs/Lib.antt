@@ -1,3 +1,5 @@
+pub mod Finds
+pub mod Orders
 pub mod Signs
 pub mod Powers
 pub mod Known

@@ -1,5 +1,5 @@
 -- The relocation table: what the searches of the code find. Assumes nothing.
-use Rattle.std.proofs.Common.{◌≡◌, ℕ, ◌+◌, ◌-◌, ◌*◌, ◌/◌, ◌^◌, ◌<◌, ◌≤◌, Bool, true, ◌&&◌, eqb, ltb, leb, List, length, Decides, sym, refl, ap, ◌∙◌, subst, inl, inr, mul-zero, arith}
+use Rattle.std.proofs.Common.{◌≡◌, ℕ, ◌+◌, ◌-◌, ◌*◌, ◌/◌, ◌^◌, ◌<◌, ◌≤◌, Bool, true, ◌&&◌, eqb, ltb, leb, List, length, Decides, sym, ap, ◌∙◌, subst, inl, inr, mul-zero, arith}
 use native.Mathlib.Nat.{mul-div-le, div-le_of_le-mul}
 use Rattle.std.proofs.lemmas.Bool.{eq-eqb, lt-ltb, le-leb, ltb-true, leb-true, eqb-true, and_from, and_parts, cases_Bool, cases_lt, cases_order, cond-true, cond-false, both_ways}
 use Rattle.std.proofs.lemmas.Bool.Decides.{Decides-eqb}
@@ -10,14 +10,11 @@ use Rattle.elf.specs.Searches.{SomeBelow, Lowest}
 use Rattle.elf.specs.Segments.{file_type, phnum, header, headers, on_each}
 use Rattle.elf.specs.Stages.{Inside, Bounded, Extended, Listed}
 use Rattle.elf.specs.Dynamic.{IsDynamic, OtherDynamic, BadExtent, BadDynamic, has_dynamic, dynamic_header, entry_in, entries, none, tagged, Stands, Described, value_of, rela, relasz, HoldsFileBytes, BadTable, table_segment, has_table, relocation_table}
-use Rattle.elf.specs.Descriptions.{Tells}
-use Rattle.elf.specs.declared.describe.Description.{Description}
-use Rattle.elf.specs.declared.describe.Description.TheVariants.{Absent, Partial, Whole}
 use Rattle.elf.specs.declared.layout.Layout.{Layout}
 use Rattle.elf.specs.declared.records.ProgramHeader.{ProgramHeader}
 use Rattle.elf.specs.declared.records.Table.{Table}
 use Rattle.elf.proofs.Lowests.{lowest_is, lowest_found, lowest_none}
-use Rattle.elf.proofs.Dynamics.{entries_none}
+use Rattle.elf.proofs.Dynamics.{reaches, word_small, entries_none}
 
 module _ (l : Layout) (bytes : List ℕ) where
   -- The entry that the search for a tag finds.
@@ -73,11 +70,11 @@ module _ (l : Layout) (bytes : List ℕ) where
         elim (cases_order j (dynamic_header l bytes)) [
           | inl same ↦ other same
           | inr (inl less) ↦ found.lowest j less is
-          | inr (inr more) ↦ clear j within (kind, is, inl (dynamic_header l bytes, more, found.fits))
+          | inr (inr more) ↦ clear j within (record { independent = kind; dynamic = is; bad = inl (dynamic_header l bytes, more, found.fits) })
         ]
 
     pub good_extent : BadExtent l bytes (header l bytes (dynamic_header l bytes)) → ⊥
-    good_extent bad = clear (dynamic_header l bytes) below (kind, found.fits, inr (alone, bad))
+    good_extent bad = clear (dynamic_header l bytes) below (record { independent = kind; dynamic = found.fits; bad = inr (alone, bad) })
 
   pub extended : Bounded l bytes → Clear (on_each DynamicExtent (headers l bytes) (BadDynamic l bytes)) → Extended l bytes
   extended b clear = record {
@@ -90,12 +87,6 @@ module _ (l : Layout) (bytes : List ℕ) where
           | inr s ↦ s
         ];
   }
-
-  -- A description that is not whole says that not all three tags stand there.
-  pub not_whole : (d : Description) → Tells l bytes d → ((a n e : ℕ) → d ≡ Whole a n e → ⊥) → Described l bytes → ⊥
-  not_whole Absent tells other described = tells.0 described.address
-  not_whole Partial tells other described = tells.1 described
-  not_whole (Whole a n e) tells other described = other a n e refl
 
   -- The segment of the relocation table.
   holds_test : ℕ → Bool
@@ -175,16 +166,15 @@ module _ (l : Layout) (bytes : List ℕ) where
       ap at (sym same) ∙ sym (cond-true (has_table l bytes) (at (table_segment l bytes)) (none l.relocation) (has_from described below))
 
   -- The same of figures that are known to be the file's, as the code has them.
-  pub table_missed : (k a n : ℕ) → k ≡ phnum l bytes → a ≡ rela l bytes → n ≡ relasz l bytes → ((i : ℕ) → i < k → HoldsFileBytes l bytes a n i → ⊥) → none l.relocation ≡ relocation_table l bytes
-  table_missed k a n p q r absent =
+  pub table_missed : (a n : ℕ) → a ≡ rela l bytes → n ≡ relasz l bytes → ((i : ℕ) → i < phnum l bytes → HoldsFileBytes l bytes a n i → ⊥) → none l.relocation ≡ relocation_table l bytes
+  table_missed a n q r absent =
       table_unheld (λ i within holds.
-      absent i (omega arith) (subst (λ (x : ℕ). HoldsFileBytes l bytes x n i) (sym q) (subst (λ (y : ℕ). HoldsFileBytes l bytes (rela l bytes) y i) (sym r) holds)))
+      absent i within (subst (λ (x : ℕ). HoldsFileBytes l bytes x n i) (sym q) (subst (λ (y : ℕ). HoldsFileBytes l bytes (rela l bytes) y i) (sym r) holds)))
 
-  pub table_found : (k a n i : ℕ) (h : ProgramHeader) → k ≡ phnum l bytes → Described l bytes → a ≡ rela l bytes → n ≡ relasz l bytes → h ≡ header l bytes i → Lowest k (HoldsFileBytes l bytes a n) i → record { first = h.offset + (a - h.vaddr); size = l.relocation; count = n / l.relocation } ≡ relocation_table l bytes
-  table_found k a n i h p described q r e found =
+  pub table_found : (a n i : ℕ) (h : ProgramHeader) → Described l bytes → a ≡ rela l bytes → n ≡ relasz l bytes → h ≡ header l bytes i → Lowest (phnum l bytes) (HoldsFileBytes l bytes a n) i → record { first = h.offset + (a - h.vaddr); size = l.relocation; count = n / l.relocation } ≡ relocation_table l bytes
+  table_found a n i h described q r e found =
       let here : Lowest (phnum l bytes) (HoldsFileBytes l bytes (rela l bytes) (relasz l bytes)) i =
-      subst (λ (x : ℕ). Lowest x (HoldsFileBytes l bytes (rela l bytes) (relasz l bytes)) i) p
-      (subst (λ (x : ℕ). Lowest k (HoldsFileBytes l bytes x (relasz l bytes)) i) q (subst (λ (y : ℕ). Lowest k (HoldsFileBytes l bytes a y) i) r found)) in
+      subst (λ (x : ℕ). Lowest (phnum l bytes) (HoldsFileBytes l bytes x (relasz l bytes)) i) q (subst (λ (y : ℕ). Lowest (phnum l bytes) (HoldsFileBytes l bytes a y) i) r found) in
       ap (λ (g : ProgramHeader). record { first = g.offset + (a - g.vaddr); size = l.relocation; count = n / l.relocation }) e
       ∙ ap (λ (x : ℕ). record { first = (header l bytes i).offset + (x - (header l bytes i).vaddr); size = l.relocation; count = n / l.relocation }) q
       ∙ ap (λ (y : ℕ). record { first = (header l bytes i).offset + (rela l bytes - (header l bytes i).vaddr); size = l.relocation; count = y / l.relocation }) r
@@ -236,13 +226,13 @@ module _ (l : Layout) (bytes : List ℕ) where
       ]
 
   -- What a scan of the relocations needs.
-  pub relocations_ready : (t : Table) → t ≡ relocation_table l bytes → Extended l bytes → ((i : ℕ) → i < t.count → Listed l bytes l.relocation t i) × (t.first + t.size * t.count < 2 ^ 64)
+  pub relocations_ready : (t : Table) → t ≡ relocation_table l bytes → Extended l bytes → ((i : ℕ) → i < t.count → Listed l bytes l.relocation t i) × (t.first + t.size * 2 ^ 32 ≤ 2 ^ 64)
   relocations_ready t e x =
       let whole = relocations_inside x in
+      let r = x.bounded.readable in
       let inside : Inside t bytes = subst (λ (s : Table). Inside s bytes) (sym e) whole.0 in
-      let short = x.bounded.readable.headed.short in
-      let limit = x.bounded.readable.headed.sound.file_limit in
-      (λ i within. record { readable = x.bounded.readable; size = ap (λ (s : Table). s.size) e ∙ whole.1; inside = inside; within = within }, omega arith)
+      let size : t.size ≡ l.relocation = ap (λ (s : Table). s.size) e ∙ whole.1 in
+      (λ i within. record { readable = r; size = size; inside = inside; within = within }, reaches l bytes r t inside (omega (arith, size, r.headed.sound.relocation, word_small l bytes r.headed.sound)))
 
   -- No more relocations than the limit, where the rule on the relocation table is clear.
   pub relocations_few : Sound l → (BadTable l bytes → ⊥) → (relocation_table l bytes).count ≤ l.limits.relocations

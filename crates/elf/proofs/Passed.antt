@@ -1,6 +1,6 @@
 -- What is known of a file whose rules are clear, and the first fault of a file from that of one of its groups of rules. Assumes nothing.
-use Rattle.std.proofs.Common.{ℕ, List, ◌++◌, Ok, Err, Result}
-use Rattle.faults.specs.Rules.{Rule, First, AllClear, Tried}
+use Rattle.std.proofs.Common.{◌≡◌, ℕ, List, ◌++◌, Ok, Err, Result, subst}
+use Rattle.faults.specs.Rules.{Rule, First, AllClear, Answers, Tried}
 use Rattle.faults.specs.declared.fault.Fault.{Fault}
 use Rattle.faults.proofs.Families.{first_front, first_back, clear_front, clear_back, clear_both, tried_back}
 use Rattle.elf.specs.Layouts.{Sound}
@@ -10,6 +10,10 @@ use Rattle.elf.specs.Dynamic.{dynamic_rules, format_rules, relocation_rules, ope
 use Rattle.elf.specs.declared.layout.Layout.{Layout}
 use Rattle.elf.proofs.Known.{headed, readable, bounded}
 use Rattle.elf.proofs.Located.{extended}
+
+-- What holds of a layout and bytes holds of those that are the same.
+pub carried : (P : Layout → List ℕ → Type 0) {l m : Layout} {b c : List ℕ} → l ≡ m → b ≡ c → P l b → P m c
+carried P {l = l} {m = m} {b = b} {c = c} e f p = subst (λ x. P x c) e (subst (P l) f p)
 
 module _ (l : Layout) (b : List ℕ) where
   pub knows_header : Sound l → AllClear (identity_rules l b) → Headed l b
@@ -111,9 +115,9 @@ module _ (l : Layout) (b : List ℕ) where
             at_dynamic g first = behind_table (first_back (segment_rules l b) (dynamic_rules l b) f g first)
 
   -- What the last check of the format answers, all groups before it clear.
-  pub at_last : {X : Type 0} (r : Result X Fault) → AllClear (identity_rules l b) → AllClear (kind_rules l b) → AllClear (size_rules l b) → AllClear (table_rules l b) → AllClear (segment_rules l b) → Tried (dynamic_rules l b) r → Tried (format_rules l b) r
-  at_last (Ok x) i k s t g d = all_groups i k s t g d
-  at_last (Err f) i k s t g d = at_dynamic f i k s t g d
+  pub at_last : {X : Type 0} {P Q : X → Type 0} (r : Result X Fault) → AllClear (identity_rules l b) → AllClear (kind_rules l b) → AllClear (size_rules l b) → AllClear (table_rules l b) → AllClear (segment_rules l b) → ((x : X) → P x → Q x) → Answers (dynamic_rules l b) P r → Answers (format_rules l b) Q r
+  at_last (Ok x) i k s t g step d = (all_groups i k s t g d.0, step x d.1)
+  at_last (Err f) i k s t g step d = at_dynamic f i k s t g d
 
   -- What the check of the relocations answers, the format clear.
   pub at_relocations : {X : Type 0} (r : Result X Fault) → AllClear (format_rules l b) → Tried (relocation_rules l b) r → Tried (open_rules l b) r

@@ -1,10 +1,10 @@
 pub mod Bytes
 pub mod Layouts
+pub mod Props
 pub mod Records
 pub mod Kinds
 pub mod Searches
 pub mod Segments
 pub mod Dynamic
 pub mod Stages
-pub mod Descriptions
 pub mod Files

@@ -1,5 +1,5 @@
 -- The lowest and the highest number that something holds of. Assumes nothing.
-use Rattle.std.specs.Prelude.{ℕ, zero, suc, ◌<◌, Bool, cond, nat_lt}
+use Rattle.std.specs.Prelude.{ℕ, zero, suc, ◌<◌, Bool, cond, nat_lt, Option, MatchOption}
 
 -- P holds of some number below n.
 abbrev pub SomeBelow : ℕ → (ℕ → Type 0) → Type 0
@@ -10,6 +10,10 @@ pub record Lowest (n : ℕ) (P : ℕ → Type 0) (i : ℕ) : Type 0 where
   pub within : i < n
   pub fits : P i
   pub lowest : (j : ℕ) → j < i → P j → ⊥
+
+-- What a search for the first number below n that P holds of finds.
+abbrev pub FirstOf : ℕ → (ℕ → Type 0) → Option ℕ → Type 0
+FirstOf n P r = MatchOption r ((i : ℕ) → i < n → P i → ⊥) (Lowest n P)
 
 -- i is the highest number below n that P holds of.
 pub record Highest (n : ℕ) (P : ℕ → Type 0) (i : ℕ) : Type 0 where

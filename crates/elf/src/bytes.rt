@@ -1,35 +1,36 @@
 // Numbers stored lowest byte first.
-ghost use Rattle.std.specs.Prelude.{◌≡◌, ◌+◌, ◌^◌, ◌<◌, ◌≤◌, ◌⊎◌, length};
+ghost use Rattle.std.specs.Prelude.{◌≡◌, ℕ, ◌+◌, ◌^◌, ◌<◌, ◌≤◌, ◌⊎◌, length, slice_index};
 ghost use Rattle.elf.specs.Bytes.{le};
+
+// The bytes from an offset on.
+fn bytes_at<const N: usize>(file: &[u8], at: usize) -> [u8; N]
+    requires { at + N ≤ length file.now }
+    ensures { (i : ℕ) → i < N → slice_index result i ≡ slice_index file.now (at + i) }
+{
+    let mut bytes = [0; N];
+    bytes.copy_from_slice(&file[at..at + N]);
+    bytes
+}
 
 pub(crate) fn u16_at(file: &[u8], at: usize) -> u16
     requires { at + 2 ≤ length file.now }
     ensures { result ≡ le file.now at 2 }
 {
-    u16::from_le_bytes([file[at], file[at + 1]])
+    u16::from_le_bytes(bytes_at(file, at))
 }
 
 pub(crate) fn u32_at(file: &[u8], at: usize) -> u32
     requires { at + 4 ≤ length file.now }
     ensures { result ≡ le file.now at 4 }
 {
-    u32::from_le_bytes([file[at], file[at + 1], file[at + 2], file[at + 3]])
+    u32::from_le_bytes(bytes_at(file, at))
 }
 
 pub(crate) fn u64_at(file: &[u8], at: usize) -> u64
     requires { at + 8 ≤ length file.now }
     ensures { result ≡ le file.now at 8 }
 {
-    u64::from_le_bytes([
-        file[at],
-        file[at + 1],
-        file[at + 2],
-        file[at + 3],
-        file[at + 4],
-        file[at + 5],
-        file[at + 6],
-        file[at + 7],
-    ])
+    u64::from_le_bytes(bytes_at(file, at))
 }
 
 // A number of an address's width.

@@ -40,6 +40,14 @@ pub enum Tag {
     Relr = 36,
 }
 
+impl Tag {
+    pub(crate) fn number(self) -> u64
+        ensures { result ≡ tag_number self }
+    {
+        self as u64
+    }
+}
+
 impl FileHeader {
     // Whether the file is of a type.
     pub fn is(&self, kind: FileType) -> bool
@@ -72,6 +80,6 @@ impl DynamicEntry {
     pub fn is(&self, tag: Tag) -> bool
         ensures { Decides result (self.now.tag ≡ tag_number tag) }
     {
-        self.tag == tag as u64
+        self.tag == tag.number()
     }
 }

@@ -2,7 +2,6 @@
 #![tactic(auto)]
 
 mod bytes;
-mod describe;
 mod dynamic;
 mod identity;
 pub mod kinds;
@@ -10,6 +9,6 @@ pub mod layout;
 pub mod opened;
 pub mod records;
 mod relocations;
-mod scan;
 mod segments;
+mod stages;
 mod tables;

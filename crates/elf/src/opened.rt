@@ -10,44 +10,114 @@ ghost use Rattle.elf.specs.Files.{HasHeader, HasEntry, Listing};
 ghost use Rattle.elf.specs.declared.records.Table.{Table as Records};
 
 use crate::bytes::{u16_at, word_at};
-use crate::identity::{check_headers, check_identity, check_kind, check_sizes};
-use crate::layout::{ELF64, Layout};
+use crate::kinds::HeaderType;
+use crate::layout::ELF64;
 use crate::records::{
-    DynamicEntry, FileHeader, HeaderReader, ProgramHeader, Relocation, Table, entry_at,
-    file_header, relocation_at,
+    DynamicEntry, FileHeader, HeaderReader, ProgramHeader, Record, Relocation, Table, file_header,
 };
-use crate::relocations::{check_relocations, nth_relocation};
-use crate::scan::find;
-use crate::segments::{DYNAMIC, OfType, check_segments, nth_header};
-use crate::tables::{check_dynamic, relocation_table};
+use crate::stages::{Dynamics, File, Headers};
 use faults::fault::Fault;
 
-// The rules up to the one on the relocation table.
-fn check_format(l: Layout, file: &[u8]) -> Result<(), Fault>
-    requires { Sound l }
-    ensures { Tried (format_rules l file.now) result }
-{
-    check_identity(l, file)?;
-    check_kind(l, file)?;
-    check_sizes(l, file)?;
-    check_headers(l, file)?;
-    check_segments(l, file)?;
-    check_dynamic(l, file)
+impl<'a> File<'a> {
+    // The rules up to the one on the relocation table.
+    fn check_format(&self) -> Result<Dynamics<'a>, Fault>
+        ensures { Answers (format_rules self.now.layout self.now.bytes.now) (λ d. (d.headers.layout ≡ self.now.layout) × (d.headers.bytes.now ≡ self.now.bytes.now)) result }
+    {
+        let file = self.check_identity()?;
+        file.check_kind()?;
+        file.check_sizes()?;
+        let headers = file.check_headers()?;
+        headers.check_segments()?;
+        headers.check_dynamic()
+    }
+
+    fn check(&self) -> Result<(), Fault>
+        ensures { Tried (open_rules self.now.layout self.now.bytes.now) result }
+    {
+        self.check_format()?.check_relocations()
+    }
+
+    // The program headers, where the file has its header and all of them within the limits.
+    fn headers(&self) -> Option<Headers<'a>>
+        ensures { MatchOption result (Readable self.now.layout self.now.bytes.now → ⊥) (λ h. (h.layout ≡ self.now.layout) × (h.bytes.now ≡ self.now.bytes.now)) }
+    {
+        let l = self.layout;
+        let length = self.bytes.len();
+        if length < l.file.size || length > l.limits.file {
+            return None;
+        }
+        let first = word_at(self.bytes, l.file.phoff, l.word);
+        let count = u16_at(self.bytes, l.file.phnum);
+        if count > l.limits.headers {
+            return None;
+        }
+        let size = l.header.size as u64 * count as u64;
+        if size > length as u64 || first > length as u64 - size {
+            return None;
+        }
+        Some(Headers {
+            layout: l,
+            bytes: self.bytes,
+        })
+    }
+
+    fn dynamic_entry(&self, i: u32) -> Option<DynamicEntry>
+        ensures { MatchOption result (HasEntry self.now.layout self.now.bytes.now i → ⊥) (λ e. HasEntry self.now.layout self.now.bytes.now i × (e ≡ entry_in self.now.layout self.now.bytes.now (dynamic_table self.now.layout self.now.bytes.now) i)) }
+    {
+        self.headers()?.dynamic_entry(i)
+    }
+
+    fn relocation_table(&self) -> Table
+        ensures listing { Listing self.now.layout self.now.bytes.now result }
+        ensures limit { result.count ≤ self.now.layout.limits.relocations }
+    {
+        match self.check_format() {
+            Ok(dynamics) => dynamics.relocation_table(),
+            Err(_) => Table {
+                first: 0,
+                size: self.layout.relocation as u64,
+                count: 0,
+            },
+        }
+    }
+
+    fn relocation(&self, i: u32) -> Option<Relocation>
+        ensures { (t : Records) × Listing self.now.layout self.now.bytes.now t × MatchOption result (t.count ≤ i) (λ x. (i < t.count) × (x ≡ relocation_in self.now.layout self.now.bytes.now t i)) }
+    {
+        let table = self.relocation_table();
+        if i >= table.count {
+            return None;
+        }
+        let at = table.first as usize + table.size as usize * i as usize;
+        Some(Relocation::read(self.layout, self.bytes, at))
+    }
 }
 
-fn check_file(l: Layout, file: &[u8]) -> Result<(), Fault>
-    requires { Sound l }
-    ensures { Tried (open_rules l file.now) result }
-{
-    check_format(l, file)?;
-    check_relocations(l, file)
+impl<'a> Headers<'a> {
+    fn dynamic_entry(&self, i: u32) -> Option<DynamicEntry>
+        ensures { MatchOption result (HasEntry self.now.layout self.now.bytes.now i → ⊥) (λ e. HasEntry self.now.layout self.now.bytes.now i × (e ≡ entry_in self.now.layout self.now.bytes.now (dynamic_table self.now.layout self.now.bytes.now) i)) }
+    {
+        let d = self.first_of(HeaderType::Dynamic)?;
+        let h = self.get(d);
+        let size = self.layout.dynamic as u64;
+        let length = self.bytes.len() as u64;
+        if i as u64 >= h.filesz / size || h.offset > length {
+            return None;
+        }
+        let before = size * i as u64;
+        if before + size > length - h.offset {
+            return None;
+        }
+        let at = (h.offset + before) as usize;
+        Some(DynamicEntry::read(self.layout, self.bytes, at))
+    }
 }
 
 // Checks the file against the rules of the format, and answers the fault of the first rule that it breaks.
 pub fn check(file: &[u8]) -> Result<(), Fault>
     ensures { Tried (open_rules elf64 file.now) result }
 {
-    check_file(ELF64, file)
+    File::elf64(file).check()
 }
 
 // A file's bytes, to be read as those of an ELF file.
@@ -71,24 +141,6 @@ pub fn faults_at_most() -> u8
     ensures in_turn { InTurn (format_rules elf64) (relocation_rules elf64) }
 {
     1u8
-}
-
-// Whether the file has its header and its program headers, within the limits.
-fn is_readable(l: Layout, file: &[u8]) -> bool
-    requires { Sound l }
-    ensures { Decides result (Readable l file.now) }
-{
-    let length = file.len();
-    if length < l.file.size || length > l.limits.file {
-        return false;
-    }
-    let first = word_at(file, l.file.phoff, l.word);
-    let count = u16_at(file, l.file.phnum);
-    if count > l.limits.headers {
-        return false;
-    }
-    let size = l.header.size as u64 * count as u64;
-    size <= length as u64 && first <= length as u64 - size
 }
 
 impl<'a> Opened<'a> {
@@ -136,7 +188,7 @@ impl<'a> Opened<'a> {
     pub fn dynamic_entry(&self, i: u32) -> Option<DynamicEntry>
         ensures { MatchOption result (HasEntry elf64 self.now.file.now i → ⊥) (λ e. HasEntry elf64 self.now.file.now i × (e ≡ entry_in elf64 self.now.file.now (dynamic_table elf64 self.now.file.now) i)) }
     {
-        nth_dynamic(ELF64, self.file, i)
+        File::elf64(self.file).dynamic_entry(i)
     }
 
     // Where the relocations lie: nowhere, unless the rules up to the one on the relocation table are clear.
@@ -144,7 +196,7 @@ impl<'a> Opened<'a> {
         ensures listing { Listing elf64 self.now.file.now result }
         ensures limit { result.count ≤ 65536 }
     {
-        listed_relocations(ELF64, self.file)
+        File::elf64(self.file).relocation_table()
     }
 
     // How many relocations there are.
@@ -159,7 +211,7 @@ impl<'a> Opened<'a> {
     pub fn relocation(&self, i: u32) -> Option<Relocation>
         ensures { (t : Records) × Listing elf64 self.now.file.now t × MatchOption result (t.count ≤ i) (λ x. (i < t.count) × (x ≡ relocation_in elf64 self.now.file.now t i)) }
     {
-        listed_relocation(ELF64, self.file, i)
+        File::elf64(self.file).relocation(i)
     }
 
     // The relocation whose bytes begin at an offset, where the file has it whole.
@@ -171,56 +223,6 @@ impl<'a> Opened<'a> {
         if length < l.relocation || offset > (length - l.relocation) as u64 {
             return None;
         }
-        Some(relocation_at(l, self.file, offset as usize))
+        Some(Relocation::read(l, self.file, offset as usize))
     }
-}
-
-fn nth_dynamic(l: Layout, file: &[u8], i: u32) -> Option<DynamicEntry>
-    requires { Sound l }
-    ensures { MatchOption result (HasEntry l file.now i → ⊥) (λ e. HasEntry l file.now i × (e ≡ entry_in l file.now (dynamic_table l file.now) i)) }
-{
-    if !is_readable(l, file) {
-        return None;
-    }
-    let headers = u16_at(file, l.file.phnum) as u32;
-    let Some(d) = find(&OfType(DYNAMIC), l, file, headers) else {
-        return None;
-    };
-    let h = nth_header(l, file, d);
-    let size = l.dynamic as u64;
-    let length = file.len() as u64;
-    if i as u64 >= h.filesz / size || h.offset > length {
-        return None;
-    }
-    let before = size * i as u64;
-    if before + size > length - h.offset {
-        return None;
-    }
-    Some(entry_at(l, file, (h.offset + before) as usize))
-}
-
-fn listed_relocations(l: Layout, file: &[u8]) -> Table
-    requires { Sound l }
-    ensures listing { Listing l file.now result }
-    ensures limit { result.count ≤ l.limits.relocations }
-{
-    match check_format(l, file) {
-        Ok(()) => relocation_table(l, file),
-        Err(_) => Table {
-            first: 0,
-            size: l.relocation as u64,
-            count: 0,
-        },
-    }
-}
-
-fn listed_relocation(l: Layout, file: &[u8], i: u32) -> Option<Relocation>
-    requires { Sound l }
-    ensures { (t : Records) × Listing l file.now t × MatchOption result (t.count ≤ i) (λ x. (i < t.count) × (x ≡ relocation_in l file.now t i)) }
-{
-    let table = listed_relocations(l, file);
-    if i >= table.count {
-        return None;
-    }
-    Some(nth_relocation(l, file, table, i))
 }

@@ -1,11 +1,16 @@
 // The records of an ELF file, each read from the file's bytes.
-ghost use Rattle.std.specs.Prelude.{◌≡◌, ◌+◌, ◌<◌, ◌≤◌, ◌⊎◌, length, MatchOption};
+ghost use Rattle.std.specs.Prelude.{◌≡◌, ℕ, ◌+◌, ◌*◌, ◌^◌, ◌<◌, ◌≤◌, ◌⊎◌, List, length, MatchOption, Ok, Err};
+ghost use Rattle.faults.specs.declared.fault.Layer.TheVariants.{Open};
 ghost use Rattle.elf.specs.Layouts.{Sound};
 ghost use Rattle.elf.specs.Bytes.{le};
 ghost use Rattle.elf.specs.Records.{file_header, header_at, entry_at, relocation_at, signed};
+ghost use Rattle.elf.specs.Segments.{offset_in};
+ghost use Rattle.elf.specs.Props.{layout_props};
+ghost use Rattle.elf.specs.declared.layout.Layout.{Layout as Shape};
 
 use crate::bytes::{u16_at, u32_at, u64_at, word_at};
 use crate::layout::Layout;
+use faults::fault::{Fault, Layer, Reason};
 
 // The fields of the file header behind its identification.
 #[derive(Clone, Copy)]
@@ -71,28 +76,45 @@ pub(crate) fn file_header(l: Layout, file: &[u8]) -> FileHeader
     }
 }
 
-pub(crate) fn header_at(l: Layout, file: &[u8], at: usize) -> ProgramHeader
-    requires { (Sound l) × (at + l.header.size ≤ length file.now) }
-    ensures { result ≡ header_at l file.now at }
-{
-    ProgramHeader {
-        kind: u32_at(file, at),
-        flags: u32_at(file, at + l.header.flags),
-        offset: word_at(file, at + l.header.offset, l.word),
-        vaddr: word_at(file, at + l.header.vaddr, l.word),
-        filesz: word_at(file, at + l.header.filesz, l.word),
-        memsz: word_at(file, at + l.header.memsz, l.word),
-        align: word_at(file, at + l.header.align, l.word),
+// A record of one of a file's tables: how many bytes it has in a layout, and how it is read from them.
+pub(crate) trait Record: Sized {
+    ghost width: { Shape → ℕ };
+
+    ghost reads: { Shape → List ℕ → ℕ → Self };
+
+    fn read(l: Layout, file: &[u8], at: usize) -> Self
+        requires { (Sound l) × (at + width l ≤ length file.now) }
+        ensures { result ≡ reads l file.now at };
+}
+
+impl Record for ProgramHeader {
+    ghost width = { λ l. l.header.size };
+
+    ghost reads = { header_at };
+
+    fn read(l: Layout, file: &[u8], at: usize) -> ProgramHeader {
+        ProgramHeader {
+            kind: u32_at(file, at),
+            flags: u32_at(file, at + l.header.flags),
+            offset: word_at(file, at + l.header.offset, l.word),
+            vaddr: word_at(file, at + l.header.vaddr, l.word),
+            filesz: word_at(file, at + l.header.filesz, l.word),
+            memsz: word_at(file, at + l.header.memsz, l.word),
+            align: word_at(file, at + l.header.align, l.word),
+        }
     }
 }
 
-pub(crate) fn entry_at(l: Layout, file: &[u8], at: usize) -> DynamicEntry
-    requires { (Sound l) × (at + l.dynamic ≤ length file.now) }
-    ensures { result ≡ entry_at l file.now at }
-{
-    DynamicEntry {
-        tag: word_at(file, at, l.word),
-        value: word_at(file, at + l.word, l.word),
+impl Record for DynamicEntry {
+    ghost width = { λ l. l.dynamic };
+
+    ghost reads = { entry_at };
+
+    fn read(l: Layout, file: &[u8], at: usize) -> DynamicEntry {
+        DynamicEntry {
+            tag: word_at(file, at, l.word),
+            value: word_at(file, at + l.word, l.word),
+        }
     }
 }
 
@@ -109,16 +131,19 @@ fn signed_at(file: &[u8], at: usize, width: usize) -> i64
     }
 }
 
-pub(crate) fn relocation_at(l: Layout, file: &[u8], at: usize) -> Relocation
-    requires { (Sound l) × (at + l.relocation ≤ length file.now) }
-    ensures { result ≡ relocation_at l file.now at }
-{
-    let info = word_at(file, at + l.word, l.word);
-    Relocation {
-        offset: word_at(file, at, l.word),
-        kind: (info % l.kinds) as u32,
-        symbol: (info / l.kinds) as u32,
-        addend: signed_at(file, at + 2 * l.word, l.word),
+impl Record for Relocation {
+    ghost width = { λ l. l.relocation };
+
+    ghost reads = { relocation_at };
+
+    fn read(l: Layout, file: &[u8], at: usize) -> Relocation {
+        let info = word_at(file, at + l.word, l.word);
+        Relocation {
+            offset: word_at(file, at, l.word),
+            kind: (info % l.kinds) as u32,
+            symbol: (info / l.kinds) as u32,
+            addend: signed_at(file, at + 2 * l.word, l.word),
+        }
     }
 }
 
@@ -128,11 +153,13 @@ pub struct HeaderReader<'a> {
     layout: Layout,
     file: &'a [u8],
     at: u64,
+    ghost sound: { Sound layout } by { Prim.hlevel layout_props },
 }
 
 impl<'a> HeaderReader<'a> {
     // A reader of the file's program headers from an offset on.
     pub(crate) fn new(layout: Layout, file: &'a [u8], at: u64) -> HeaderReader<'a>
+        requires { Sound layout }
         ensures { (result.layout ≡ layout) × (result.file.now ≡ file.now) × (result.at ≡ at) }
     {
         HeaderReader { layout, file, at }
@@ -140,7 +167,6 @@ impl<'a> HeaderReader<'a> {
 
     // The next header, or `None` where the file's end cuts it short: then the reader stays where it is.
     pub(crate) fn next(&mut self) -> Option<ProgramHeader>
-        requires { Sound self.old.layout }
         ensures read { MatchOption result ((length self.old.file.now < self.old.at + self.old.layout.header.size) × (self.new.at ≡ self.old.at)) (λ h. (self.old.at + self.old.layout.header.size ≤ length self.old.file.now) × (h ≡ header_at self.old.layout self.old.file.now self.old.at) × (self.new.at ≡ self.old.at + self.old.layout.header.size)) }
         ensures same { (self.new.file.now ≡ self.old.file.now) × (self.new.layout ≡ self.old.layout) }
     {
@@ -150,6 +176,24 @@ impl<'a> HeaderReader<'a> {
             return None;
         }
         self.at = end as u64;
-        Some(header_at(self.layout, self.file, at))
+        Some(ProgramHeader::read(self.layout, self.file, at))
+    }
+}
+
+impl Table {
+    // The refusal of a file for the record that a search among the table's has found.
+    pub(crate) fn refuse(&self, reason: Reason, found: Option<u32>) -> Result<(), Fault>
+        requires { self.now.first + self.now.size * 2 ^ 32 ≤ 2 ^ 64 }
+        ensures { MatchOption found (result ≡ Ok tt) (λ i. result ≡ Err (record { reason = reason; layer = Open; «record» = i; place = offset_in self.now i })) }
+    {
+        let Some(i) = found else {
+            return Ok(());
+        };
+        Err(Fault {
+            reason,
+            layer: Layer::Open,
+            record: i,
+            place: self.first + self.size * i as u64,
+        })
     }
 }

@@ -1,106 +1,101 @@
 // The rules on the relocations.
 ghost use Rattle.std.specs.Prelude.{◌≡◌, ℕ, ◌+◌, ◌*◌, ◌<◌, ◌≤◌, Decides};
 ghost use Rattle.faults.specs.Rules.{Checked, Tried};
-ghost use Rattle.faults.specs.declared.fault.Reason.TheVariants.{RelocationType, RelocationTarget};
-ghost use Rattle.elf.specs.Searches.{SomeBelow};
+ghost use Rattle.faults.specs.declared.fault.Reason.TheVariants.{RelocationType as WrongType, RelocationTarget};
 ghost use Rattle.elf.specs.Segments.{on_each, phnum};
-ghost use Rattle.elf.specs.Stages.{Readable, Extended, Listed};
+ghost use Rattle.elf.specs.Searches.{FirstOf};
+ghost use Rattle.elf.specs.Stages.{Listed};
 ghost use Rattle.elf.specs.Dynamic.{relocation_in, relocation_table, BadKind, BadTarget, Writable, relocation_rules};
 
-use crate::bytes::u16_at;
-use crate::layout::Layout;
-use crate::records::{Relocation, Table, relocation_at};
-use crate::scan::{RecordTest, any, scan};
-use crate::segments::{LOAD, nth_header};
-use crate::tables::relocation_table;
+use crate::kinds::{HeaderType, RelocationType};
+use crate::records::{Relocation, Table};
+use crate::stages::{Dynamics, Headers};
 use faults::fault::{Fault, Reason};
 
-// The type of a relocation that puts the bias plus its addend at its offset.
-const RELATIVE: u32 = 3;
-
-pub(crate) fn nth_relocation(l: Layout, file: &[u8], table: Table, i: u32) -> Relocation
-    requires { Listed l file.now l.relocation table i }
-    ensures { result ≡ relocation_in l file.now table i }
-{
-    relocation_at(
-        l,
-        file,
-        table.first as usize + table.size as usize * i as usize,
-    )
-}
-
-// Whether a writable segment's memory holds the word at an address.
-#[derive(Clone, Copy)]
-pub(crate) struct HoldsWord(u64);
-
-impl RecordTest for HoldsWord {
-    ghost ready = { λ _ l bytes i. Readable l bytes × (i < phnum l bytes) };
-
-    ghost fits = { λ a l bytes i. Writable l bytes a.0 i };
-
-    fn test(&self, l: Layout, file: &[u8], i: u32) -> bool {
-        let h = nth_header(l, file, i);
-        let word = l.word as u64;
-        h.kind == LOAD
+impl<'a> Headers<'a> {
+    // Whether the memory of the writable segment `i` holds the word at an address.
+    fn holds_word(&self, i: u32, address: u64) -> bool
+        requires { i < phnum self.now.layout self.now.bytes.now }
+        ensures { Decides result (Writable self.now.layout self.now.bytes.now address i) }
+    {
+        let h = self.get(i);
+        let word = self.layout.word as u64;
+        h.is(HeaderType::Load)
             && h.flags / 2 % 2 == 1
-            && h.vaddr <= self.0
+            && h.vaddr <= address
             && h.memsz >= word
-            && self.0 - h.vaddr <= h.memsz - word
+            && address - h.vaddr <= h.memsz - word
     }
-}
 
-#[derive(Clone, Copy)]
-pub(crate) struct Kinds(Table);
-
-impl RecordTest for Kinds {
-    ghost ready = { λ t l bytes i. Listed l bytes l.relocation t.0 i };
-
-    ghost fits = { λ t l bytes i. BadKind l bytes t.0 i };
-
-    fn test(&self, l: Layout, file: &[u8], i: u32) -> bool {
-        let r = nth_relocation(l, file, self.0, i);
-        r.kind != 0 && r.kind != RELATIVE || r.kind == RELATIVE && r.symbol != 0
+    // The relocation `i` of a table.
+    pub(crate) fn relocation(&self, table: Table, i: u32) -> Relocation
+        requires { Listed self.now.layout self.now.bytes.now self.now.layout.relocation table i }
+        ensures { result ≡ relocation_in self.now.layout self.now.bytes.now table i }
+    {
+        self.record(table, i)
     }
-}
 
-#[derive(Clone, Copy)]
-pub(crate) struct Targets(Table);
+    fn has_bad_kind(&self, table: Table, i: u32) -> bool
+        requires { Listed self.now.layout self.now.bytes.now self.now.layout.relocation table i }
+        ensures { Decides result (BadKind self.now.layout self.now.bytes.now table i) }
+    {
+        let r = self.relocation(table, i);
+        let relative = r.is(RelocationType::Relative);
+        !relative && !r.is(RelocationType::Nothing) || relative && r.symbol != 0
+    }
 
-impl RecordTest for Targets {
-    ghost ready = { λ t l bytes i. Listed l bytes l.relocation t.0 i };
-
-    ghost fits = { λ t l bytes i. BadTarget l bytes t.0 i };
-
-    fn test(&self, l: Layout, file: &[u8], i: u32) -> bool {
-        let r = nth_relocation(l, file, self.0, i);
-        if r.kind != RELATIVE {
+    fn has_bad_target(&self, table: Table, i: u32) -> bool
+        requires { Listed self.now.layout self.now.bytes.now self.now.layout.relocation table i }
+        ensures { Decides result (BadTarget self.now.layout self.now.bytes.now table i) }
+    {
+        let r = self.relocation(table, i);
+        if !r.is(RelocationType::Relative) {
             return false;
         }
-        let headers = u16_at(file, l.file.phnum) as u32;
-        r.offset % l.word as u64 != 0 || !any(&HoldsWord(r.offset), l, file, headers)
+        r.offset % self.layout.word as u64 != 0 || self.holding_word(r.offset).is_none()
+    }
+
+    // The first writable segment whose memory holds the word at an address.
+    fn holding_word(&self, address: u64) -> Option<u32>
+        ensures { FirstOf (phnum self.now.layout self.now.bytes.now) (Writable self.now.layout self.now.bytes.now address) result }
+    {
+        (0..self.count()).find(|i| self.holds_word(*i, address))
+    }
+
+    fn bad_kind(&self, table: Table) -> Option<u32>
+        requires { (i : ℕ) → i < table.count → Listed self.now.layout self.now.bytes.now self.now.layout.relocation table i }
+        ensures { FirstOf table.count (BadKind self.now.layout self.now.bytes.now table) result }
+    {
+        (0..table.count).find(|i| self.has_bad_kind(table, *i))
+    }
+
+    fn bad_target(&self, table: Table) -> Option<u32>
+        requires { (i : ℕ) → i < table.count → Listed self.now.layout self.now.bytes.now self.now.layout.relocation table i }
+        ensures { FirstOf table.count (BadTarget self.now.layout self.now.bytes.now table) result }
+    {
+        (0..table.count).find(|i| self.has_bad_target(table, *i))
     }
 }
 
-fn check_kinds(l: Layout, file: &[u8]) -> Result<(), Fault>
-    requires { Extended l file.now }
-    ensures { Checked (on_each RelocationType (relocation_table l file.now) (BadKind l file.now (relocation_table l file.now))) result }
-{
-    let table = relocation_table(l, file);
-    scan(&Kinds(table), l, file, table, Reason::RelocationType)
-}
+impl<'a> Dynamics<'a> {
+    fn check_kinds(&self) -> Result<(), Fault>
+        ensures { Checked (on_each WrongType (relocation_table self.now.headers.layout self.now.headers.bytes.now) (BadKind self.now.headers.layout self.now.headers.bytes.now (relocation_table self.now.headers.layout self.now.headers.bytes.now))) result }
+    {
+        let table = self.relocation_table();
+        table.refuse(Reason::RelocationType, self.headers.bad_kind(table))
+    }
 
-fn check_targets(l: Layout, file: &[u8]) -> Result<(), Fault>
-    requires { Extended l file.now }
-    ensures { Checked (on_each RelocationTarget (relocation_table l file.now) (BadTarget l file.now (relocation_table l file.now))) result }
-{
-    let table = relocation_table(l, file);
-    scan(&Targets(table), l, file, table, Reason::RelocationTarget)
-}
+    fn check_targets(&self) -> Result<(), Fault>
+        ensures { Checked (on_each RelocationTarget (relocation_table self.now.headers.layout self.now.headers.bytes.now) (BadTarget self.now.headers.layout self.now.headers.bytes.now (relocation_table self.now.headers.layout self.now.headers.bytes.now))) result }
+    {
+        let table = self.relocation_table();
+        table.refuse(Reason::RelocationTarget, self.headers.bad_target(table))
+    }
 
-pub(crate) fn check_relocations(l: Layout, file: &[u8]) -> Result<(), Fault>
-    requires { Extended l file.now }
-    ensures { Tried (relocation_rules l file.now) result }
-{
-    check_kinds(l, file)?;
-    check_targets(l, file)
+    pub(crate) fn check_relocations(&self) -> Result<(), Fault>
+        ensures { Tried (relocation_rules self.now.headers.layout self.now.headers.bytes.now) result }
+    {
+        self.check_kinds()?;
+        self.check_targets()
+    }
 }

@@ -1,25 +1,19 @@
-// The tests of the program headers.
-ghost use Rattle.std.specs.Prelude.{◌≡◌, ℕ, ◌+◌, ◌*◌, ◌<◌, ◌≤◌, Decides};
+// The checks of the program headers.
+ghost use Rattle.std.specs.Prelude.{◌≡◌, ℕ, ◌+◌, ◌*◌, ◌<◌, ◌≤◌, Decides, MatchOption, Ok, Err};
 ghost use Rattle.faults.specs.Rules.{Checked, Tried};
-ghost use Rattle.faults.specs.declared.fault.Reason.TheVariants.{EntryPoint};
-ghost use Rattle.elf.specs.Stages.{Readable, Bounded};
-ghost use Rattle.elf.specs.Segments.{PowerOfTwo, Load, Interprets, BadSize, BadAlign, Misaligned, BadFlags, BadEnd, BadOrder, Executable, BadEntry, segment_rules, once, on_each, header, headers, phnum};
+ghost use Rattle.faults.specs.declared.fault.Reason.TheVariants.{EntryPoint, Interpreter};
+ghost use Rattle.elf.specs.Searches.{FirstOf, Highest};
+ghost use Rattle.faults.specs.declared.fault.Layer.TheVariants.{Open};
+ghost use Rattle.elf.specs.Kinds.{header_number};
+ghost use Rattle.elf.specs.Segments.{PowerOfTwo, Load, Interprets, BadSize, BadAlign, Misaligned, BadFlags, BadEnd, BadOrder, Executable, BadEntry, bad_load_count, segment_rules, once, on_each, offset_in, header, headers, phnum};
 
-use crate::bytes::{u16_at, word_at};
+use crate::bytes::word_at;
 use crate::identity::refusal;
-use crate::layout::Layout;
-use crate::records::{ProgramHeader, Table, header_at};
-use crate::scan::{RecordTest, any, find_last, scan};
+use crate::kinds::HeaderType;
+use crate::layout::PAGE;
+use crate::records::ProgramHeader;
+use crate::stages::Headers;
 use faults::fault::{Fault, Reason};
-
-// The program header types that the loader reads.
-pub(crate) const LOAD: u32 = 1;
-
-pub(crate) const DYNAMIC: u32 = 2;
-
-pub(crate) const INTERPRETER: u32 = 3;
-
-const PAGE: u64 = 4096;
 
 // Whether a number has one binary digit set.
 pub(crate) fn is_power_of_two(n: u64) -> bool
@@ -28,185 +22,204 @@ pub(crate) fn is_power_of_two(n: u64) -> bool
     n.count_ones() == 1
 }
 
-// Where the program headers lie.
-pub(crate) fn header_table(l: Layout, file: &[u8]) -> Table
-    requires { Readable l file.now }
-    ensures { result ≡ headers l file.now }
-{
-    Table {
-        first: word_at(file, l.file.phoff, l.word),
-        size: l.header.size as u64,
-        count: u16_at(file, l.file.phnum) as u32,
+impl ProgramHeader {
+    fn is_misaligned(&self) -> bool
+        ensures { Decides result (Misaligned self.now) }
+    {
+        let modulus = self.align.max(PAGE);
+        self.align != 0 && !is_power_of_two(self.align)
+            || self.vaddr % modulus != self.offset % modulus
     }
 }
 
-pub(crate) fn nth_header(l: Layout, file: &[u8], i: u32) -> ProgramHeader
-    requires { (Readable l file.now) × (i < phnum l file.now) }
-    ensures { result ≡ header l file.now i }
-{
-    let first = word_at(file, l.file.phoff, l.word) as usize;
-    header_at(l, file, first + l.header.size * i as usize)
-}
-
-// Whether a header is of one type.
-#[derive(Clone, Copy)]
-pub(crate) struct OfType(pub(crate) u32);
-
-impl RecordTest for OfType {
-    ghost ready = { λ _ l bytes i. Readable l bytes × (i < phnum l bytes) };
-
-    ghost fits = { λ t l bytes i. (header l bytes i).kind ≡ t.0 };
-
-    fn test(&self, l: Layout, file: &[u8], i: u32) -> bool {
-        nth_header(l, file, i).kind == self.0
+impl<'a> Headers<'a> {
+    // Whether the header `i` is of a type.
+    pub(crate) fn is(&self, i: u32, kind: HeaderType) -> bool
+        requires { i < phnum self.now.layout self.now.bytes.now }
+        ensures { Decides result ((header self.now.layout self.now.bytes.now i).kind ≡ header_number kind) }
+    {
+        self.get(i).is(kind)
     }
-}
 
-#[derive(Clone, Copy)]
-pub(crate) struct Sizes;
+    // The first header of a type.
+    pub(crate) fn first_of(&self, kind: HeaderType) -> Option<u32>
+        ensures { FirstOf (phnum self.now.layout self.now.bytes.now) (λ i. (header self.now.layout self.now.bytes.now i).kind ≡ header_number kind) result }
+    {
+        (0..self.count()).find(|i| self.is(*i, kind))
+    }
 
-impl RecordTest for Sizes {
-    ghost ready = { λ _ l bytes i. Readable l bytes × (i < phnum l bytes) };
+    // The last load header before the header `i`. A loop, since what `rfind` gives of a range is not found here.
+    fn load_before(&self, i: u32) -> Option<u32>
+        requires { i < phnum self.now.layout self.now.bytes.now }
+        ensures { MatchOption result ((j : ℕ) → j < i → Load (header self.now.layout self.now.bytes.now j) → ⊥) (Highest i (λ k. Load (header self.now.layout self.now.bytes.now k))) }
+    {
+        for j in (0..i).rev() {
+            if self.is(j, HeaderType::Load) {
+                return Some(j);
+            }
+        }
+        None
+    }
 
-    ghost fits = { λ _. BadSize };
+    // The refusal of a file for the header that a search has found.
+    pub(crate) fn refuse(&self, reason: Reason, found: Option<u32>) -> Result<(), Fault>
+        ensures { MatchOption found (result ≡ Ok tt) (λ i. result ≡ Err (record { reason = reason; layer = Open; «record» = i; place = offset_in (headers self.now.layout self.now.bytes.now) i })) }
+    {
+        self.table().refuse(reason, found)
+    }
 
-    fn test(&self, l: Layout, file: &[u8], i: u32) -> bool {
-        let h = nth_header(l, file, i);
-        let length = file.len() as u64;
-        h.kind == LOAD
+    pub(crate) fn check_interpreter(&self) -> Result<(), Fault>
+        ensures { Checked (on_each Interpreter (headers self.now.layout self.now.bytes.now) (Interprets self.now.layout self.now.bytes.now)) result }
+    {
+        self.refuse(Reason::Interpreter, self.first_of(HeaderType::Interpreter))
+    }
+
+    // A loop, since what `filter` and `count` give of a range is not found to be the number of load headers.
+    pub(crate) fn check_load_count(&self) -> Result<(), Fault>
+        ensures { Checked (bad_load_count self.now.layout self.now.bytes.now) result }
+    {
+        let l = self.layout;
+        let mut count = 0u32;
+        for i in 0..self.count() {
+            if self.is(i, HeaderType::Load) {
+                count += 1;
+            }
+        }
+        if count == 0 || count > l.limits.loads {
+            return Err(refusal(Reason::LoadCount, l.file.phnum as u64));
+        }
+        Ok(())
+    }
+
+    fn has_bad_size(&self, i: u32) -> bool
+        requires { i < phnum self.now.layout self.now.bytes.now }
+        ensures { Decides result (BadSize self.now.layout self.now.bytes.now i) }
+    {
+        let h = self.get(i);
+        let length = self.bytes.len() as u64;
+        h.is(HeaderType::Load)
             && (h.memsz == 0
                 || h.filesz > h.memsz
                 || h.filesz > length
                 || h.offset > length - h.filesz)
     }
-}
 
-fn is_misaligned(h: &ProgramHeader) -> bool
-    ensures { Decides result (Misaligned h.now) }
-{
-    let modulus = h.align.max(PAGE);
-    h.align != 0 && !is_power_of_two(h.align) || h.vaddr % modulus != h.offset % modulus
-}
-
-#[derive(Clone, Copy)]
-pub(crate) struct Aligns;
-
-impl RecordTest for Aligns {
-    ghost ready = { λ _ l bytes i. Readable l bytes × (i < phnum l bytes) };
-
-    ghost fits = { λ _. BadAlign };
-
-    fn test(&self, l: Layout, file: &[u8], i: u32) -> bool {
-        let h = nth_header(l, file, i);
-        h.kind == LOAD && is_misaligned(&h)
+    fn has_bad_alignment(&self, i: u32) -> bool
+        requires { i < phnum self.now.layout self.now.bytes.now }
+        ensures { Decides result (BadAlign self.now.layout self.now.bytes.now i) }
+    {
+        let h = self.get(i);
+        h.is(HeaderType::Load) && h.is_misaligned()
     }
-}
 
-#[derive(Clone, Copy)]
-pub(crate) struct Flags;
-
-impl RecordTest for Flags {
-    ghost ready = { λ _ l bytes i. Readable l bytes × (i < phnum l bytes) };
-
-    ghost fits = { λ _. BadFlags };
-
-    fn test(&self, l: Layout, file: &[u8], i: u32) -> bool {
-        let h = nth_header(l, file, i);
-        h.kind == LOAD && (h.flags % 8 == 0 || h.flags % 4 == 3)
+    fn has_bad_flags(&self, i: u32) -> bool
+        requires { i < phnum self.now.layout self.now.bytes.now }
+        ensures { Decides result (BadFlags self.now.layout self.now.bytes.now i) }
+    {
+        let h = self.get(i);
+        h.is(HeaderType::Load) && (h.flags % 8 == 0 || h.flags % 4 == 3)
     }
-}
 
-#[derive(Clone, Copy)]
-pub(crate) struct Ends;
-
-impl RecordTest for Ends {
-    ghost ready = { λ _ l bytes i. Readable l bytes × (i < phnum l bytes) };
-
-    ghost fits = { λ _. BadEnd };
-
-    fn test(&self, l: Layout, file: &[u8], i: u32) -> bool {
-        let h = nth_header(l, file, i);
-        h.kind == LOAD && (h.vaddr > l.end || h.memsz > l.end - h.vaddr)
+    fn has_bad_end(&self, i: u32) -> bool
+        requires { i < phnum self.now.layout self.now.bytes.now }
+        ensures { Decides result (BadEnd self.now.layout self.now.bytes.now i) }
+    {
+        let h = self.get(i);
+        let end = self.layout.end;
+        h.is(HeaderType::Load) && (h.vaddr > end || h.memsz > end - h.vaddr)
     }
-}
 
-#[derive(Clone, Copy)]
-pub(crate) struct Orders;
-
-impl RecordTest for Orders {
-    ghost ready = { λ _ l bytes i. Bounded l bytes × (i < phnum l bytes) };
-
-    ghost fits = { λ _. BadOrder };
-
-    fn test(&self, l: Layout, file: &[u8], i: u32) -> bool {
-        let h = nth_header(l, file, i);
-        if h.kind != LOAD {
+    // Whether a load segment begins no higher than the last page of the one before. A segment that passes 2^64 reaches the last page there is.
+    fn is_out_of_order(&self, i: u32) -> bool
+        requires { i < phnum self.now.layout self.now.bytes.now }
+        ensures { Decides result (BadOrder self.now.layout self.now.bytes.now i) }
+    {
+        let h = self.get(i);
+        if !h.is(HeaderType::Load) {
             return false;
         }
-        let Some(j) = find_last(&OfType(LOAD), l, file, i) else {
+        let Some(j) = self.load_before(i) else {
             return false;
         };
-        let before = nth_header(l, file, j);
-        h.vaddr / PAGE <= (before.vaddr + before.memsz).saturating_sub(1) / PAGE
+        let before = self.get(j);
+        let end = before.vaddr.saturating_add(before.memsz);
+        h.vaddr / PAGE <= end.saturating_sub(1) / PAGE
     }
-}
 
-// Whether a segment is executable and its memory holds the address.
-#[derive(Clone, Copy)]
-pub(crate) struct Executes(pub(crate) u64);
-
-impl RecordTest for Executes {
-    ghost ready = { λ _ l bytes i. Readable l bytes × (i < phnum l bytes) };
-
-    ghost fits = { λ a l bytes i. Executable l bytes a.0 i };
-
-    fn test(&self, l: Layout, file: &[u8], i: u32) -> bool {
-        let h = nth_header(l, file, i);
-        h.kind == LOAD && h.flags % 2 == 1 && h.vaddr <= self.0 && self.0 - h.vaddr < h.memsz
+    // Whether the header `i` is of an executable segment whose memory holds the address.
+    fn executes(&self, i: u32, address: u64) -> bool
+        requires { i < phnum self.now.layout self.now.bytes.now }
+        ensures { Decides result (Executable self.now.layout self.now.bytes.now address i) }
+    {
+        let h = self.get(i);
+        h.is(HeaderType::Load)
+            && h.flags % 2 == 1
+            && h.vaddr <= address
+            && address - h.vaddr < h.memsz
     }
-}
 
-// Refuses a file for its first program header that the test fits.
-pub(crate) fn scan_headers<T: RecordTest>(
-    test: &T,
-    l: Layout,
-    file: &[u8],
-    reason: Reason,
-) -> Result<(), Fault>
-    requires readable { Readable l file.now }
-    requires ready { (i : ℕ) → i < phnum l file.now → T.ready test.now l file.now i }
-    ensures { Checked (on_each reason (headers l file.now) (T.fits test.now l file.now)) result }
-{
-    scan(test, l, file, header_table(l, file), reason)
-}
-
-fn is_bad_entry(l: Layout, file: &[u8]) -> bool
-    requires { Readable l file.now }
-    ensures { Decides result (BadEntry l file.now) }
-{
-    let entry = word_at(file, l.file.entry, l.word);
-    let count = u16_at(file, l.file.phnum) as u32;
-    entry % 2 == 1 || !any(&Executes(entry), l, file, count)
-}
-
-fn check_entry(l: Layout, file: &[u8]) -> Result<(), Fault>
-    requires { Readable l file.now }
-    ensures { Checked (once EntryPoint l.file.entry (BadEntry l file.now)) result }
-{
-    if is_bad_entry(l, file) {
-        return Err(refusal(Reason::EntryPoint, l.file.entry as u64));
+    // The first header of a segment that is executable and whose memory holds the address.
+    fn executing(&self, address: u64) -> Option<u32>
+        ensures { FirstOf (phnum self.now.layout self.now.bytes.now) (Executable self.now.layout self.now.bytes.now address) result }
+    {
+        (0..self.count()).find(|i| self.executes(*i, address))
     }
-    Ok(())
-}
 
-pub(crate) fn check_segments(l: Layout, file: &[u8]) -> Result<(), Fault>
-    requires { Readable l file.now }
-    ensures { Tried (segment_rules l file.now) result }
-{
-    scan_headers(&Sizes, l, file, Reason::SegmentSize)?;
-    scan_headers(&Aligns, l, file, Reason::SegmentAlignment)?;
-    scan_headers(&Flags, l, file, Reason::SegmentFlags)?;
-    scan_headers(&Ends, l, file, Reason::SegmentEnd)?;
-    scan_headers(&Orders, l, file, Reason::SegmentOrder)?;
-    check_entry(l, file)
+    fn has_bad_entry(&self) -> bool
+        ensures { Decides result (BadEntry self.now.layout self.now.bytes.now) }
+    {
+        let entry = word_at(self.bytes, self.layout.file.entry, self.layout.word);
+        entry % 2 == 1 || self.executing(entry).is_none()
+    }
+
+    fn check_entry(&self) -> Result<(), Fault>
+        ensures { Checked (once EntryPoint self.now.layout.file.entry (BadEntry self.now.layout self.now.bytes.now)) result }
+    {
+        if self.has_bad_entry() {
+            return Err(refusal(Reason::EntryPoint, self.layout.file.entry as u64));
+        }
+        Ok(())
+    }
+
+    // The first header of a segment that breaks each of the rules.
+    fn bad_size(&self) -> Option<u32>
+        ensures { FirstOf (phnum self.now.layout self.now.bytes.now) (BadSize self.now.layout self.now.bytes.now) result }
+    {
+        (0..self.count()).find(|i| self.has_bad_size(*i))
+    }
+
+    fn bad_alignment(&self) -> Option<u32>
+        ensures { FirstOf (phnum self.now.layout self.now.bytes.now) (BadAlign self.now.layout self.now.bytes.now) result }
+    {
+        (0..self.count()).find(|i| self.has_bad_alignment(*i))
+    }
+
+    fn bad_flags(&self) -> Option<u32>
+        ensures { FirstOf (phnum self.now.layout self.now.bytes.now) (BadFlags self.now.layout self.now.bytes.now) result }
+    {
+        (0..self.count()).find(|i| self.has_bad_flags(*i))
+    }
+
+    fn bad_end(&self) -> Option<u32>
+        ensures { FirstOf (phnum self.now.layout self.now.bytes.now) (BadEnd self.now.layout self.now.bytes.now) result }
+    {
+        (0..self.count()).find(|i| self.has_bad_end(*i))
+    }
+
+    fn out_of_order(&self) -> Option<u32>
+        ensures { FirstOf (phnum self.now.layout self.now.bytes.now) (BadOrder self.now.layout self.now.bytes.now) result }
+    {
+        (0..self.count()).find(|i| self.is_out_of_order(*i))
+    }
+
+    pub(crate) fn check_segments(&self) -> Result<(), Fault>
+        ensures { Tried (segment_rules self.now.layout self.now.bytes.now) result }
+    {
+        self.refuse(Reason::SegmentSize, self.bad_size())?;
+        self.refuse(Reason::SegmentAlignment, self.bad_alignment())?;
+        self.refuse(Reason::SegmentFlags, self.bad_flags())?;
+        self.refuse(Reason::SegmentEnd, self.bad_end())?;
+        self.refuse(Reason::SegmentOrder, self.out_of_order())?;
+        self.check_entry()
+    }
 }

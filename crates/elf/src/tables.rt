@@ -1,168 +1,131 @@
 // The relocation table of a position-independent file.
 ghost use Rattle.std.specs.Prelude.{◌≡◌, ℕ, ◌+◌, ◌*◌, ◌<◌, ◌≤◌, true, Decides, MatchOption};
-ghost use Rattle.faults.specs.Rules.{Checked, Tried};
+ghost use Rattle.faults.specs.Rules.{Answers, Checked, Tried};
 ghost use Rattle.faults.specs.declared.fault.Reason.TheVariants.{RelocationTable};
-ghost use Rattle.elf.specs.Layouts.{Sound};
+ghost use Rattle.elf.specs.Kinds.{tag_number};
 ghost use Rattle.elf.specs.Segments.{header, headers, offset_in, once, phnum};
-ghost use Rattle.elf.specs.Searches.{SomeBelow};
-ghost use Rattle.elf.specs.Stages.{Readable, Bounded, Extended};
-ghost use Rattle.elf.specs.Dynamic.{dynamic_header, entries, Stands, value_of, HoldsFileBytes, BadSizes, BadFigures, BadTable, dynamic_rules, relocation_table};
-ghost use Rattle.elf.specs.Descriptions.{Tells};
+ghost use Rattle.elf.specs.Searches.{SomeBelow, FirstOf};
+ghost use Rattle.elf.specs.Stages.{Bounded};
+ghost use Rattle.elf.specs.Dynamic.{dynamic_header, entries, Stands, value_of, HoldsFileBytes, BadSizes, BadFigures, BadTable, dynamic_rules, relocation_table, none};
 
-use crate::bytes::u16_at;
-use crate::describe::Description;
-use crate::dynamic::{
-    BadDynamics, Tagged, check_end, check_tags, dynamic_place, entry_table, nth_entry,
-};
 use crate::identity::refusal;
-use crate::layout::Layout;
+use crate::kinds::{HeaderType, Tag};
 use crate::records::Table;
-use crate::scan::{RecordTest, any, find};
-use crate::segments::{LOAD, nth_header, scan_headers};
+use crate::stages::{Dynamics, Headers};
 use faults::fault::{Fault, Reason};
 
-// The tags that describe the relocation table.
-const RELA: u64 = 7;
+impl<'a> Headers<'a> {
+    // Whether the file bytes of the load segment `i` hold some bytes.
+    fn holds_file_bytes(&self, i: u32, address: u64, size: u64) -> bool
+        requires { i < phnum self.now.layout self.now.bytes.now }
+        ensures { Decides result (HoldsFileBytes self.now.layout self.now.bytes.now address size i) }
+    {
+        let h = self.get(i);
+        h.is(HeaderType::Load)
+            && h.vaddr <= address
+            && size <= h.filesz
+            && address - h.vaddr <= h.filesz - size
+    }
 
-const RELASZ: u64 = 8;
+    // The first load segment whose file bytes hold some bytes.
+    fn holding(&self, address: u64, size: u64) -> Option<u32>
+        ensures { FirstOf (phnum self.now.layout self.now.bytes.now) (HoldsFileBytes self.now.layout self.now.bytes.now address size) result }
+    {
+        (0..self.count()).find(|i| self.holds_file_bytes(*i, address, size))
+    }
 
-const RELAENT: u64 = 9;
+    fn has_bad_sizes(&self, entry: u64, size: u64) -> bool
+        ensures { Decides result (BadSizes self.now.layout entry size) }
+    {
+        let relocation = self.layout.relocation as u64;
+        entry != relocation
+            || size % relocation != 0
+            || size > relocation * self.layout.limits.relocations
+    }
 
-// The value of the first entry with the tag.
-fn value(l: Layout, file: &[u8], tag: u64) -> Option<u64>
-    requires { Extended l file.now }
-    ensures { MatchOption result (Stands l file.now tag → ⊥) (λ v. Stands l file.now tag × (v ≡ value_of l file.now tag)) }
-{
-    let table = entry_table(l, file);
-    let Some(i) = find(&Tagged { table, tag }, l, file, table.count) else {
-        return None;
-    };
-    Some(nth_entry(l, file, table, i).value)
-}
+    fn has_bad_figures(&self, entry: u64, address: u64, size: u64) -> bool
+        ensures { Decides result (BadFigures self.now.layout self.now.bytes.now entry address size) }
+    {
+        self.has_bad_sizes(entry, size) || size != 0 && self.holding(address, size).is_none()
+    }
 
-fn describe(l: Layout, file: &[u8]) -> Description
-    requires { Extended l file.now }
-    ensures { Tells l file.now result }
-{
-    let address = value(l, file, RELA);
-    let size = value(l, file, RELASZ);
-    let entry = value(l, file, RELAENT);
-    match (address, size, entry) {
-        (None, None, None) => Description::Absent,
-        (Some(address), Some(size), Some(entry)) => Description::Whole {
-            address,
-            size,
-            entry,
-        },
-        _ => Description::Partial,
+    // The file, with its dynamic table.
+    pub(crate) fn check_dynamic(&self) -> Result<Dynamics<'a>, Fault>
+        requires { Bounded self.now.layout self.now.bytes.now }
+        ensures { Answers (dynamic_rules self.now.layout self.now.bytes.now) (λ d. (d.headers.layout ≡ self.now.layout) × (d.headers.bytes.now ≡ self.now.bytes.now)) result }
+    {
+        self.check_extent()?;
+        let dynamics = Dynamics { headers: *self };
+        dynamics.check_end()?;
+        dynamics.check_tags()?;
+        dynamics.check_table()?;
+        Ok(dynamics)
     }
 }
 
-// Whether the file bytes of a load segment hold some bytes.
-#[derive(Clone, Copy)]
-pub(crate) struct HoldsBytes {
-    address: u64,
-    size: u64,
-}
-
-impl RecordTest for HoldsBytes {
-    ghost ready = { λ _ l bytes i. Readable l bytes × (i < phnum l bytes) };
-
-    ghost fits = { λ t l bytes i. HoldsFileBytes l bytes t.address t.size i };
-
-    fn test(&self, l: Layout, file: &[u8], i: u32) -> bool {
-        let h = nth_header(l, file, i);
-        h.kind == LOAD
-            && h.vaddr <= self.address
-            && self.size <= h.filesz
-            && self.address - h.vaddr <= h.filesz - self.size
+impl<'a> Dynamics<'a> {
+    // The value of the first entry with the tag.
+    fn value(&self, tag: Tag) -> Option<u64>
+        ensures { MatchOption result (Stands self.now.headers.layout self.now.headers.bytes.now (tag_number tag) → ⊥) (λ v. Stands self.now.headers.layout self.now.headers.bytes.now (tag_number tag) × (v ≡ value_of self.now.headers.layout self.now.headers.bytes.now (tag_number tag))) }
+    {
+        let table = self.entries();
+        let i = self.tagged(table, table.count, tag.number())?;
+        Some(self.entry(table, i).value)
     }
-}
 
-// Whether some bytes lie in no load segment's file bytes.
-fn is_outside(l: Layout, file: &[u8], address: u64, size: u64) -> bool
-    requires { Readable l file.now }
-    ensures { Decides result (SomeBelow (phnum l file.now) (HoldsFileBytes l file.now address size) → ⊥) }
-{
-    let count = u16_at(file, l.file.phnum) as u32;
-    !any(&HoldsBytes { address, size }, l, file, count)
-}
-
-fn has_bad_sizes(l: Layout, entry: u64, size: u64) -> bool
-    requires { Sound l }
-    ensures { Decides result (BadSizes l entry size) }
-{
-    let relocation = l.relocation as u64;
-    entry != relocation || size % relocation != 0 || size > relocation * l.limits.relocations
-}
-
-fn has_bad_figures(l: Layout, file: &[u8], entry: u64, address: u64, size: u64) -> bool
-    requires { Readable l file.now }
-    ensures { Decides result (BadFigures l file.now entry address size) }
-{
-    has_bad_sizes(l, entry, size) || size != 0 && is_outside(l, file, address, size)
-}
-
-fn is_bad_table(l: Layout, file: &[u8]) -> bool
-    requires { Extended l file.now }
-    ensures { Decides result (BadTable l file.now) }
-{
-    match describe(l, file) {
-        Description::Absent => false,
-        Description::Partial => true,
-        Description::Whole {
-            address,
-            size,
-            entry,
-        } => has_bad_figures(l, file, entry, address, size),
+    fn has_bad_table(&self) -> bool
+        ensures { Decides result (BadTable self.now.headers.layout self.now.headers.bytes.now) }
+    {
+        let address = self.value(Tag::Rela);
+        let size = self.value(Tag::RelaSize);
+        let entry = self.value(Tag::RelaEntry);
+        match (address, size, entry) {
+            (None, None, None) => false,
+            (Some(address), Some(size), Some(entry)) => {
+                self.headers.has_bad_figures(entry, address, size)
+            }
+            _ => true,
+        }
     }
-}
 
-fn check_table(l: Layout, file: &[u8]) -> Result<(), Fault>
-    requires { Extended l file.now }
-    ensures { Checked (once RelocationTable (offset_in (headers l file.now) (dynamic_header l file.now)) (BadTable l file.now)) result }
-{
-    let Some(place) = dynamic_place(l, file) else {
-        return Ok(());
-    };
-    if is_bad_table(l, file) {
-        return Err(refusal(Reason::RelocationTable, place));
+    fn check_table(&self) -> Result<(), Fault>
+        ensures { Checked (once RelocationTable (offset_in (headers self.now.headers.layout self.now.headers.bytes.now) (dynamic_header self.now.headers.layout self.now.headers.bytes.now)) (BadTable self.now.headers.layout self.now.headers.bytes.now)) result }
+    {
+        let Some(place) = self.place() else {
+            return Ok(());
+        };
+        if self.has_bad_table() {
+            return Err(refusal(Reason::RelocationTable, place));
+        }
+        Ok(())
     }
-    Ok(())
-}
 
-// Where the relocations lie in the file.
-pub(crate) fn relocation_table(l: Layout, file: &[u8]) -> Table
-    requires { Extended l file.now }
-    ensures { result ≡ relocation_table l file.now }
-{
-    let width = l.relocation as u64;
-    let none = Table {
-        first: 0,
-        size: width,
-        count: 0,
-    };
-    let Description::Whole { address, size, .. } = describe(l, file) else {
-        return none;
-    };
-    let headers = u16_at(file, l.file.phnum) as u32;
-    let Some(i) = find(&HoldsBytes { address, size }, l, file, headers) else {
-        return none;
-    };
-    let h = nth_header(l, file, i);
-    Table {
-        first: h.offset + (address - h.vaddr),
-        size: width,
-        count: (size / width) as u32,
+    // Where the relocations lie in the file.
+    pub(crate) fn relocation_table(&self) -> Table
+        ensures { result ≡ relocation_table self.now.headers.layout self.now.headers.bytes.now }
+    {
+        self.held_table().unwrap_or(Table {
+            first: 0,
+            size: self.headers.layout.relocation as u64,
+            count: 0,
+        })
     }
-}
 
-pub(crate) fn check_dynamic(l: Layout, file: &[u8]) -> Result<(), Fault>
-    requires { Bounded l file.now }
-    ensures { Tried (dynamic_rules l file.now) result }
-{
-    scan_headers(&BadDynamics, l, file, Reason::DynamicExtent)?;
-    check_end(l, file)?;
-    check_tags(l, file)?;
-    check_table(l, file)
+    // The relocation table that the three tags describe and a segment holds.
+    fn held_table(&self) -> Option<Table>
+        ensures { MatchOption result (none self.now.headers.layout.relocation ≡ relocation_table self.now.headers.layout self.now.headers.bytes.now) (λ t. t ≡ relocation_table self.now.headers.layout self.now.headers.bytes.now) }
+    {
+        let address = self.value(Tag::Rela)?;
+        let size = self.value(Tag::RelaSize)?;
+        self.value(Tag::RelaEntry)?;
+        let headers = self.headers;
+        let i = headers.holding(address, size)?;
+        let h = headers.get(i);
+        let width = headers.layout.relocation as u64;
+        Some(Table {
+            first: h.offset + (address - h.vaddr),
+            size: width,
+            count: (size / width) as u32,
+        })
+    }
 }

@@ -1,9 +1,0 @@
-use Rattle.std.proofs.Common.{w64}
-use Rattle.elf.specs.Records.{relocation_at}
-use Rattle.elf.proofs.Signs.{there_and_back}
-use Rattle.elf.proofs.records.relocation_at.Goals as goal
-
-pub returns : goal.returns
-unfolding relocation_at
-returns c =
-    rw (there_and_back w64 c.signed_at.result c.signed_at.type_inv, c.signed_at.ensures, c.word_at.ensures.value, c.word_at-info.ensures.value)

@@ -1,0 +1,14 @@
+use borrow.Author.Tests.{tests}
+use Rattle.std.proofs.lemmas.Iterator.{serves_from_Range}
+use Rattle.std.proofs.Common.{rules, of_calls, arith, refl, ℕ, ◌≡◌}
+use Rattle.elf.specs.Dynamic.{entry_in}
+use Rattle.elf.proofs.Finds.{found_first}
+use Rattle.elf.proofs.stages.Dynamics.tagged.Goals as goal
+
+pub find-requires-clause-callable : goal.find-requires-clause-callable
+find-requires-clause-callable c = serves_from_Range (λ x q k. search (rules, of_calls)) (λ x from to y at. let listed = c.requires y.now (omega (arith, at, to)) in search rules)
+
+pub returns : goal.returns
+returns c =
+    let P : ℕ → Type 0 = λ i. (entry_in c.args.self.now.headers.layout c.args.self.now.headers.bytes.now c.args.table i).tag ≡ c.args.tag in
+    found_first _ _ _ _ P refl c.find.ensures.ran (λ x q k. search (rules, tests)) (λ x q k. search (rules, tests))
