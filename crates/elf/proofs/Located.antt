@@ -70,11 +70,11 @@ module _ (l : Layout) (bytes : List ℕ) where
         elim (cases_order j (dynamic_header l bytes)) [
           | inl same ↦ other same
           | inr (inl less) ↦ found.lowest j less is
-          | inr (inr more) ↦ clear j within (record { independent = kind; dynamic = is; bad = inl (dynamic_header l bytes, more, found.fits) })
+          | inr (inr more) ↦ clear j within (kind, is, inl (dynamic_header l bytes, more, found.fits))
         ]
 
     pub good_extent : BadExtent l bytes (header l bytes (dynamic_header l bytes)) → ⊥
-    good_extent bad = clear (dynamic_header l bytes) below (record { independent = kind; dynamic = found.fits; bad = inr (alone, bad) })
+    good_extent bad = clear (dynamic_header l bytes) below (kind, found.fits, inr (alone, bad))
 
   pub extended : Bounded l bytes → Clear (on_each DynamicExtent (headers l bytes) (BadDynamic l bytes)) → Extended l bytes
   extended b clear = record {

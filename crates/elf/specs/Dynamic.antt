@@ -24,10 +24,10 @@ abbrev pub BadExtent : Layout → List ℕ → ProgramHeader → Type 0
 BadExtent l bytes h = (l.limits.dynamic < h.filesz) ⊎ ((h.filesz % l.dynamic ≢ 0) ⊎ (length bytes < h.offset + h.filesz))
 
 -- Of a position-independent file: the header i is a second dynamic header, or the only one and its extent is bad.
-pub record BadDynamic (l : Layout) (bytes : List ℕ) (i : ℕ) : Type 0 where
-  pub independent : file_type bytes ≡ 3
-  pub dynamic : IsDynamic l bytes i
-  pub bad : SomeBelow i (IsDynamic l bytes) ⊎ ((SomeBelow (phnum l bytes) (OtherDynamic l bytes i) → ⊥) × BadExtent l bytes (header l bytes i))
+abbrev pub BadDynamic : Layout → List ℕ → ℕ → Type 0
+BadDynamic l bytes i =
+    (file_type bytes ≡ 3) × IsDynamic l bytes i
+    × (SomeBelow i (IsDynamic l bytes) ⊎ ((SomeBelow (phnum l bytes) (OtherDynamic l bytes i) → ⊥) × BadExtent l bytes (header l bytes i)))
 
 -- The number of the first dynamic header, or that of headers where there is none.
 unfoldable pub dynamic_header : Layout → List ℕ → ℕ
