@@ -7,6 +7,7 @@ mod failure;
 mod files;
 mod numbers;
 mod plan;
+mod rights;
 mod sample;
 mod usage;
 
@@ -21,40 +22,31 @@ use usage::USAGE;
 
 // The next word as a number.
 fn next_number(words: &mut Args) -> Result<u64, Failure> {
-    let Some(word) = words.next() else {
-        return Err("too few words: see inspect --help".into());
-    };
-    match number(word.as_str()) {
-        Some(n) => Ok(n),
-        None => Err("a word is no number: decimal, or hexadecimal after 0x".into()),
-    }
+    let word = words.next().ok_or(Failure::TooFewWords)?;
+    number(word.as_str()).ok_or(Failure::NoNumber)
 }
 
 // No word may be left.
-fn finish(words: &mut Args) -> Result<(), Failure> {
-    match words.next() {
-        Some(_) => Err("too many words: see inspect --help".into()),
-        None => Ok(()),
+fn finish(words: &Args) -> Result<(), Failure> {
+    if words.len() > 0 {
+        return Err(Failure::TooManyWords);
     }
+    Ok(())
 }
 
 fn run_plan(rt: &HostRuntime, mut words: Args) -> Result<(), Failure> {
-    let Some(name) = words.next() else {
-        return Err("plan: no file is named".into());
-    };
+    let name = words.next().ok_or(Failure::NoFile("plan"))?;
     let bias = next_number(&mut words)?;
-    finish(&mut words)?;
+    finish(&words)?;
     plan_file(rt, name.as_str(), bias)
 }
 
 fn run_bytes(rt: &HostRuntime, mut words: Args) -> Result<(), Failure> {
-    let Some(name) = words.next() else {
-        return Err("bytes: no file is named".into());
-    };
+    let name = words.next().ok_or(Failure::NoFile("bytes"))?;
     let bias = next_number(&mut words)?;
     let address = next_number(&mut words)?;
     let length = next_number(&mut words)?;
-    finish(&mut words)?;
+    finish(&words)?;
     show_bytes(rt, name.as_str(), bias, address, length)
 }
 
@@ -63,20 +55,17 @@ fn run(rt: &HostRuntime) -> Result<(), Failure> {
     let _ = words.next();
     let Some(command) = words.next() else {
         rt.eprint(USAGE)?;
-        return Err("no command".into());
+        return Err(Failure::NoCommand);
     };
     match command.as_str() {
         "demo" => demonstrate(rt),
         "check" => check_files(rt, words),
         "plan" => run_plan(rt, words),
         "bytes" => run_bytes(rt, words),
-        "help" | "--help" | "-h" => {
-            rt.print(USAGE)?;
-            Ok(())
-        }
+        "help" | "--help" | "-h" => Ok(rt.print(USAGE)?),
         _ => {
             rt.eprint(USAGE)?;
-            Err("no such command".into())
+            Err(Failure::UnknownCommand)
         }
     }
 }

@@ -1,153 +1,169 @@
 // `inspect plan` and `inspect bytes`: what will stand in memory, and why.
-use crate::check::{letters, print_refused};
+use crate::check::print_refused;
 use crate::failure::Failure;
 use crate::files::read_file;
+use crate::rights::Rights;
+use elf::layout::PAGE;
 use elf::opened::Opened;
+use faults::fault::Fault;
 use image::origin::Origin;
 use image::plan::Plan;
-use image::segments::Segment;
-use std::alloc::Global;
-use std::io;
+use image::segments::{Segment, Segments};
+use std::{fmt, io};
 
 fn print_segment(rt: &impl Print, s: &Segment) -> io::Result<()> {
-    let from = s.pages.first as u64 * 4096;
-    let to = from + s.pages.count as u64 * 4096;
+    let from = s.pages.first as u64 * PAGE;
+    let to = from + s.pages.count as u64 * PAGE;
     let pages = s.pages.count;
-    let (r, w, x) = letters(s.rights);
+    let rights = Rights(s.rights);
     let address = s.address;
     let memsz = s.memsz;
     let offset = s.offset;
     let filesz = s.filesz;
     println!(rt;
-        "  {from:#12x}  {to:#12x}  {pages:>6}  {r}{w}{x}     {address:#12x}  {memsz:>8}  {offset:#10x}  {filesz:>8}"
+        "  {from:#12x}  {to:#12x}  {pages:>6}  {rights}     {address:#12x}  {memsz:>8}  {offset:#10x}  {filesz:>8}"
     )
 }
 
-pub(crate) fn print_plan(rt: &impl Print, name: &str, plan: &Plan) -> io::Result<()> {
-    let segments = match plan.segments() {
-        Ok(segments) => segments,
-        Err(fault) => return print_refused(rt, name, &fault),
-    };
-    if let (Ok(entry), Ok(pages)) = (plan.entry(), plan.pages()) {
-        println!(rt; "{name}: planned entry={entry:#x} pages={pages}")?;
+// What is planned for a file.
+#[derive(Drop)]
+struct Planned {
+    entry: u64,
+    pages: u32,
+    segments: Segments,
+}
+
+impl Planned {
+    fn of(plan: &Plan) -> Result<Planned, Fault> {
+        Ok(Planned {
+            entry: plan.entry()?,
+            pages: plan.pages()?,
+            segments: plan.segments()?,
+        })
     }
+}
+
+fn print_planned(rt: &impl Print, name: &str, planned: &Planned) -> io::Result<()> {
+    let entry = planned.entry;
+    let pages = planned.pages;
+    println!(rt; "{name}: planned entry={entry:#x} pages={pages}")?;
     rt.println(
         "    pages from            to   count  rights   memory from     bytes   file from     bytes",
     )?;
-    for i in 0..segments.count() {
-        if let Some(segment) = segments.get(i) {
-            print_segment(rt, &segment)?;
-        }
+    let segments = &planned.segments;
+    for segment in (0..segments.count()).filter_map(|i| segments.get(i)) {
+        print_segment(rt, &segment)?;
     }
     Ok(())
+}
+
+pub(crate) fn print_plan(rt: &impl Print, name: &str, plan: &Plan) -> io::Result<()> {
+    match Planned::of(plan) {
+        Ok(planned) => print_planned(rt, name, &planned),
+        Err(fault) => print_refused(rt, name, &fault),
+    }
 }
 
 pub(crate) fn plan_file(rt: &HostRuntime, name: &str, bias: u64) -> Result<(), Failure> {
-    let Some(bytes) = read_file(rt, name)? else {
-        return Err("the file could not be read".into());
-    };
+    let bytes = read_file(rt, name)?;
     let opened = Opened::new(bytes.as_slice());
-    print_plan(rt, name, &Plan::new(&opened, bias))?;
-    Ok(())
+    Ok(print_plan(rt, name, &Plan::new(&opened, bias))?)
 }
 
-// Whether two bytes that follow one another are of one run.
-fn continues(before: Option<Origin>, after: Option<Origin>) -> bool {
-    match (before, after) {
-        (Some(Origin::File(a)), Some(Origin::File(b))) => a < b && b - a == 1,
-        (Some(Origin::Word(a)), Some(Origin::Word(b))) => a == b,
-        (Some(Origin::Inside), Some(Origin::Inside)) => true,
-        (Some(Origin::Around), Some(Origin::Around)) => true,
-        (None, None) => true,
-        _ => false,
-    }
-}
-
-fn print_origin(rt: &impl Print, origin: Option<Origin>) -> io::Result<()> {
-    match origin {
-        Some(Origin::File(offset)) => println!(rt; "  file {offset:#x}"),
-        Some(Origin::Word(number)) => println!(rt; "  relocation {number}"),
-        Some(Origin::Inside) => rt.println("  zero, in the segment"),
-        Some(Origin::Around) => rt.println("  zero, around the segment"),
-        None => rt.println("  not mapped"),
-    }
-}
-
-// The bytes of one line: at most 16, all of one run.
-fn print_line(
-    rt: &impl Print,
+// A byte in memory, and where it comes from, if its page is mapped.
+#[derive(Clone, Copy)]
+struct Place {
     address: u64,
-    bytes: &[u8],
+    byte: u8,
     origin: Option<Origin>,
-) -> io::Result<()> {
+}
+
+impl Place {
+    // Whether the next byte is of the same run.
+    fn continues(&self, next: &Place) -> bool {
+        match (self.origin, next.origin) {
+            (Some(Origin::File(a)), Some(Origin::File(b))) => a.checked_add(1) == Some(b),
+            (Some(Origin::Word(a)), Some(Origin::Word(b))) => a == b,
+            (Some(Origin::Inside), Some(Origin::Inside)) => true,
+            (Some(Origin::Around), Some(Origin::Around)) => true,
+            (None, None) => true,
+            _ => false,
+        }
+    }
+}
+
+// The origin of a run's first byte, in words.
+#[derive(Clone, Copy)]
+struct Source(Option<Origin>);
+
+impl fmt::Display for Source {
+    fn fmt<W: fmt::Write>(&self, f: &mut fmt::Formatter<W>) -> fmt::Result {
+        match self.0 {
+            Some(Origin::File(offset)) => write!(f, "file {offset:#x}"),
+            Some(Origin::Word(number)) => write!(f, "relocation {number}"),
+            Some(Origin::Inside) => f.write_str("zero, in the segment"),
+            Some(Origin::Around) => f.write_str("zero, around the segment"),
+            None => f.write_str("not mapped"),
+        }
+    }
+}
+
+// How many bytes stand on a line.
+const WIDTH: usize = 16;
+
+// The bytes of one line, all of one run.
+fn print_line(rt: &impl Print, line: &[Place]) -> io::Result<()> {
+    let Some(first) = line.first() else {
+        return Ok(());
+    };
+    let address = first.address;
+    let source = Source(first.origin);
     print!(rt; "  {address:#12x} ")?;
-    for byte in bytes {
+    for place in line {
+        let byte = place.byte;
         print!(rt; " {byte:02x}")?;
     }
-    for _ in bytes.len()..16 {
-        print!(rt; "   ")?;
-    }
-    print_origin(rt, origin)
+    let gap = 3 * WIDTH.saturating_sub(line.len());
+    println!(rt; "{:gap$}  {source}", "")
 }
 
-// How many of the first bytes stand on one line.
-fn line_length(origins: &[Option<Origin>]) -> usize {
-    let mut length = 0;
-    for i in 0..origins.len().min(16) {
-        if i > 0 && !continues(origins[i - 1], origins[i]) {
-            return length;
-        }
-        length = i + 1;
-    }
-    length
-}
-
-fn print_lines(
-    rt: &impl Print,
-    address: u64,
-    bytes: &[u8],
-    origins: &[Option<Origin>],
-) -> io::Result<()> {
-    let mut at = 0;
-    for _ in 0..bytes.len() {
-        if at >= bytes.len() || at >= origins.len() {
-            return Ok(());
-        }
-        let total = origins.len();
-        let length = line_length(&origins[at..total]);
-        let end = at.saturating_add(length).min(bytes.len());
-        print_line(
-            rt,
-            address.saturating_add(at as u64),
-            &bytes[at..end],
-            origins[at],
-        )?;
-        at = end;
+fn print_lines(rt: &impl Print, places: &[Place]) -> io::Result<()> {
+    for line in places
+        .chunk_by(|place, next| place.continues(next))
+        .flat_map(|run| run.chunks(WIDTH))
+    {
+        print_line(rt, line)?;
     }
     Ok(())
 }
 
 pub(crate) fn print_bytes(
-    rt: &impl Print,
-    heap: Global,
+    rt: &(impl Print + AllocGlobal),
     name: &str,
     plan: &Plan,
     address: u64,
     length: usize,
 ) -> Result<(), Failure> {
-    let mut bytes = vec![in heap; 0u8; length]?;
-    let mut origins = vec![in heap; None; length]?;
-    if let Err(fault) = plan.bytes(address, bytes.as_mut_slice()) {
-        print_refused(rt, name, &fault)?;
-        return Ok(());
-    }
-    if let Err(fault) = plan.origins(address, origins.as_mut_slice()) {
-        print_refused(rt, name, &fault)?;
-        return Ok(());
+    let mut bytes = vec![in rt.alloc(); 0u8; length]?;
+    let mut origins = vec![in rt.alloc(); None; length]?;
+    let filled = plan
+        .bytes(address, bytes.as_mut_slice())
+        .and_then(|()| plan.origins(address, origins.as_mut_slice()));
+    if let Err(fault) = filled {
+        return Ok(print_refused(rt, name, &fault)?);
     }
     println!(rt; "{name}: bytes address={address:#x} length={length}")?;
-    print_lines(rt, address, bytes.as_slice(), origins.as_slice())?;
-    Ok(())
+    let places = bytes
+        .iter()
+        .zip(origins.iter())
+        .enumerate()
+        .map(|(i, (byte, origin))| Place {
+            address: address.saturating_add(i as u64),
+            byte: *byte,
+            origin: *origin,
+        })
+        .collect::<Vec<_>>(rt.alloc())?;
+    Ok(print_lines(rt, places.as_slice())?)
 }
 
 pub(crate) fn show_bytes(
@@ -158,15 +174,12 @@ pub(crate) fn show_bytes(
     length: u64,
 ) -> Result<(), Failure> {
     if length > 1 << 20 {
-        return Err("bytes: at most 1048576 bytes at a time".into());
+        return Err(Failure::TooManyBytes);
     }
-    let Some(bytes) = read_file(rt, name)? else {
-        return Err("the file could not be read".into());
-    };
+    let bytes = read_file(rt, name)?;
     let opened = Opened::new(bytes.as_slice());
     print_bytes(
         rt,
-        rt.alloc(),
         name,
         &Plan::new(&opened, bias),
         address,
