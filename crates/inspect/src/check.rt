@@ -3,13 +3,12 @@ ghost use Rattle.std.specs.Prelude.{◌-◌};
 ghost use Rattle.std.specs.Iterator.{at_most};
 
 use crate::failure::Failure;
-use crate::files::read_file;
+use crate::report::Report;
 use crate::rights::Rights;
 use elf::kinds::{FileType, HeaderType, Tag};
-use elf::layout::PAGE;
+use elf::layout::{ELF64, PAGE};
 use elf::opened::{Opened, open};
 use elf::records::ProgramHeader;
-use faults::fault::Fault;
 use std::env::Args;
 use std::io;
 use std::ops::Range;
@@ -43,7 +42,7 @@ impl<'a> LoadHeaders<'a> {
     fn of(opened: &'a Opened<'a>) -> LoadHeaders<'a> {
         LoadHeaders {
             opened,
-            numbers: 0..64,
+            numbers: 0..u32::from(ELF64.limits.headers),
         }
     }
 }
@@ -72,7 +71,7 @@ fn print_segment(rt: &impl Print, number: u32, h: &ProgramHeader) -> io::Result<
     println!(rt; "  {number:>6}  {first:#12x}  {last:#12x}  {rights}     {filesz:>10}  {memsz:>12}")
 }
 
-pub(crate) fn print_segments(rt: &impl Print, opened: &Opened) -> io::Result<()> {
+fn print_segments(rt: &impl Print, opened: &Opened) -> io::Result<()> {
     rt.println("  header    first page     last page  rights  file bytes  memory bytes")?;
     for (number, header) in LoadHeaders::of(opened) {
         print_segment(rt, number, &header)?;
@@ -80,32 +79,8 @@ pub(crate) fn print_segments(rt: &impl Print, opened: &Opened) -> io::Result<()>
     Ok(())
 }
 
-pub(crate) fn print_opened(rt: &impl Print, name: &str, opened: &Opened) -> io::Result<()> {
-    let Some(header) = opened.file_header() else {
-        return Ok(());
-    };
-    let kind = header.kind;
-    let entry = header.entry;
-    let segments = LoadHeaders::of(opened).count();
-    let relocations = opened.relocations();
-    println!(rt;
-        "{name}: opened type={kind} entry={entry:#x} segments={segments} relocations={relocations}"
-    )?;
-    print_segments(rt, opened)
-}
-
-pub(crate) fn print_refused(rt: &impl Print, name: &str, fault: &Fault) -> io::Result<()> {
-    let number = fault.reason.number();
-    let layer = fault.layer.number();
-    let record = fault.record;
-    let place = fault.place;
-    let reason = fault.reason;
-    println!(rt; "{name}: refused {number} layer={layer} record={record} place={place:#x}")?;
-    println!(rt; "  {reason}")
-}
-
 // Whether a static file has relocations, which the loader does not apply.
-pub(crate) fn has_ignored_relocations(opened: &Opened) -> bool {
+fn has_ignored_relocations(opened: &Opened) -> bool {
     opened
         .file_header()
         .is_some_and(|header| header.is(FileType::Static))
@@ -116,24 +91,46 @@ pub(crate) fn has_ignored_relocations(opened: &Opened) -> bool {
             .any(|entry| { TableSize::ALL.iter().any(|size| entry.tag == *size as u64) })
 }
 
-pub(crate) fn print_answer(rt: &(impl Print + Eprint), name: &str, file: &[u8]) -> io::Result<()> {
-    match open(file) {
-        Err(fault) => print_refused(rt, name, &fault),
-        Ok(opened) => {
-            print_opened(rt, name, &opened)?;
-            if has_ignored_relocations(&opened) {
-                eprintln!(rt;
-                    "inspect: {name}: warning: a static file with relocations: the loader does not apply them"
-                )?;
-            }
-            Ok(())
-        }
+impl<R: Print> Report<'_, R> {
+    fn opened(&self, opened: &Opened) -> io::Result<()> {
+        let Some(header) = opened.file_header() else {
+            return Ok(());
+        };
+        let name = self.name;
+        let kind = header.kind;
+        let entry = header.entry;
+        let segments = LoadHeaders::of(opened).count();
+        let relocations = opened.relocations();
+        println!(self.rt;
+            "{name}: opened type={kind} entry={entry:#x} segments={segments} relocations={relocations}"
+        )?;
+        print_segments(self.rt, opened)
     }
 }
 
-fn check_file(rt: &HostRuntime, name: &str) -> Result<(), Failure> {
-    let bytes = read_file(rt, name)?;
-    Ok(print_answer(rt, name, bytes.as_slice())?)
+impl<R: Print + Eprint> Report<'_, R> {
+    // What opening answers, with a warning where the loader leaves something undone.
+    pub(crate) fn answer(&self, file: &[u8]) -> io::Result<()> {
+        let opened = match open(file) {
+            Ok(opened) => opened,
+            Err(fault) => return self.refused(&fault),
+        };
+        self.opened(&opened)?;
+        if has_ignored_relocations(&opened) {
+            let name = self.name;
+            eprintln!(self.rt;
+                "inspect: {name}: warning: a static file with relocations: the loader does not apply them"
+            )?;
+        }
+        Ok(())
+    }
+}
+
+impl Report<'_, HostRuntime> {
+    fn check(&self) -> Result<(), Failure> {
+        let bytes = self.read()?;
+        Ok(self.answer(bytes.as_slice())?)
+    }
 }
 
 // One answer or one message for each file.
@@ -143,7 +140,8 @@ pub(crate) fn check_files(rt: &HostRuntime, names: Args) -> Result<(), Failure> 
     }
     let mut answer = Ok(());
     for name in names {
-        match check_file(rt, name.as_str()) {
+        let report = Report::new(rt, name.as_str());
+        match report.check() {
             Err(Failure::Unreadable) => answer = Err(Failure::SomeUnreadable),
             other => other?,
         }

@@ -1,7 +1,7 @@
 // `inspect demo`: a whole task on a module that is part of the program.
-use crate::check::print_answer;
 use crate::failure::Failure;
-use crate::plan::{print_bytes, print_plan};
+use crate::plan::Extent;
+use crate::report::Report;
 use crate::sample::MODULE;
 use elf::opened::{Opened, open};
 use image::plan::Plan;
@@ -22,17 +22,18 @@ fn print_relocations(rt: &impl Print, opened: &Opened) -> io::Result<()> {
 const BIAS: u64 = 0x10000;
 
 // Plans the module and shows its pointer table.
-fn plan_module(rt: &HostRuntime, opened: &Opened) -> Result<(), Failure> {
+fn plan_module(report: &Report<'_, HostRuntime>, opened: &Opened) -> Result<(), Failure> {
+    let rt = report.rt;
     println!(rt; "planning it at bias {BIAS:#x}")?;
     let plan = Plan::new(opened, BIAS);
-    print_plan(rt, "module", &plan)?;
+    report.plan(&plan)?;
     rt.println("the bytes around its pointer table, once it is loaded")?;
-    print_bytes(rt, "module", &plan, BIAS + 0x23a8, 112)?;
+    report.bytes(&plan, Extent::new(BIAS + 0x23a8, 112)?)?;
     println!(rt;
         "planning it at bias {:#x}, which is no multiple of a page",
         BIAS + 8
     )?;
-    Ok(print_plan(rt, "module", &Plan::new(opened, BIAS + 8))?)
+    Ok(report.plan(&Plan::new(opened, BIAS + 8))?)
 }
 
 // A byte of the module that is changed, and the value that it gets.
@@ -71,23 +72,25 @@ const DAMAGES: [Damage; 5] = [
 ];
 
 // What the loader says of a damaged copy of the module.
-fn print_damaged(rt: &(impl Print + Eprint), damage: &Damage) -> io::Result<()> {
+fn print_damaged(rt: &HostRuntime, damage: &Damage) -> io::Result<()> {
     let mut copy = MODULE;
     if let Some(byte) = copy.get_mut(damage.at) {
         *byte = damage.byte;
     }
     let what = damage.what;
     println!(rt; "{what}:")?;
-    print_answer(rt, "damaged", &copy)
+    let report = Report::new(rt, "damaged");
+    report.answer(&copy)
 }
 
 pub(crate) fn demonstrate(rt: &HostRuntime) -> Result<(), Failure> {
     let length = MODULE.len();
     println!(rt; "opening the embedded module, {length} bytes")?;
-    print_answer(rt, "module", &MODULE)?;
+    let report = Report::new(rt, "module");
+    report.answer(&MODULE)?;
     if let Ok(opened) = open(&MODULE) {
         print_relocations(rt, &opened)?;
-        plan_module(rt, &opened)?;
+        plan_module(&report, &opened)?;
     }
     rt.println("and damaged copies of it")?;
     for damage in &DAMAGES {

@@ -1,4 +1,5 @@
 // Why the program ends with status 1.
+use crate::plan::LARGEST_EXTENT;
 use std::alloc::AllocError;
 use std::{fmt, io};
 use thiserror::Error;
@@ -18,7 +19,7 @@ pub(crate) enum Failure {
     TooManyWords,
     #[error("a word is no number: decimal, or hexadecimal after 0x")]
     NoNumber,
-    #[error("bytes: at most 1048576 bytes at a time")]
+    #[error("bytes: at most {most} bytes at a time", most = LARGEST_EXTENT)]
     TooManyBytes,
     #[error("the file could not be read")]
     Unreadable,

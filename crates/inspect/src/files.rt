@@ -1,5 +1,6 @@
 // Files that the program reads.
 use crate::failure::Failure;
+use crate::report::Report;
 use std::{fs, io};
 use thiserror::Error;
 
@@ -23,13 +24,16 @@ fn read_some(rt: &HostRuntime, name: &str) -> Result<Vec<u8>, ReadError> {
     Ok(fs::read(rt, name)?)
 }
 
-// The file's bytes; else a message on standard error says why there are none.
-pub(crate) fn read_file(rt: &HostRuntime, name: &str) -> Result<Vec<u8>, Failure> {
-    match read_some(rt, name) {
-        Ok(bytes) => Ok(bytes),
-        Err(error) => {
-            eprintln!(rt; "inspect: {name}: {error}")?;
-            Err(Failure::Unreadable)
+impl Report<'_, HostRuntime> {
+    // The file's bytes; else a message on standard error says why there are none.
+    pub(crate) fn read(&self) -> Result<Vec<u8>, Failure> {
+        match read_some(self.rt, self.name) {
+            Ok(bytes) => Ok(bytes),
+            Err(error) => {
+                let name = self.name;
+                eprintln!(self.rt; "inspect: {name}: {error}")?;
+                Err(Failure::Unreadable)
+            }
         }
     }
 }

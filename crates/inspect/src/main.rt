@@ -7,6 +7,7 @@ mod failure;
 mod files;
 mod numbers;
 mod plan;
+mod report;
 mod rights;
 mod sample;
 mod usage;
@@ -15,7 +16,8 @@ use check::check_files;
 use demo::demonstrate;
 use failure::Failure;
 use numbers::number;
-use plan::{plan_file, show_bytes};
+use plan::Extent;
+use report::Report;
 use std::env;
 use std::env::Args;
 use usage::USAGE;
@@ -38,7 +40,8 @@ fn run_plan(rt: &HostRuntime, mut words: Args) -> Result<(), Failure> {
     let name = words.next().ok_or(Failure::NoFile("plan"))?;
     let bias = next_number(&mut words)?;
     finish(&words)?;
-    plan_file(rt, name.as_str(), bias)
+    let report = Report::new(rt, name.as_str());
+    report.read_and_plan(bias)
 }
 
 fn run_bytes(rt: &HostRuntime, mut words: Args) -> Result<(), Failure> {
@@ -47,7 +50,8 @@ fn run_bytes(rt: &HostRuntime, mut words: Args) -> Result<(), Failure> {
     let address = next_number(&mut words)?;
     let length = next_number(&mut words)?;
     finish(&words)?;
-    show_bytes(rt, name.as_str(), bias, address, length)
+    let report = Report::new(rt, name.as_str());
+    report.read_and_show(bias, Extent::new(address, length)?)
 }
 
 fn run(rt: &HostRuntime) -> Result<(), Failure> {

@@ -1,7 +1,8 @@
 // `inspect plan` and `inspect bytes`: what will stand in memory, and why.
-use crate::check::print_refused;
+ghost use Rattle.std.specs.Prelude.{◌≡◌, ◌<◌, ◌≤◌, MatchResult};
+
 use crate::failure::Failure;
-use crate::files::read_file;
+use crate::report::Report;
 use crate::rights::Rights;
 use elf::layout::PAGE;
 use elf::opened::Opened;
@@ -43,31 +44,28 @@ impl Planned {
     }
 }
 
-fn print_planned(rt: &impl Print, name: &str, planned: &Planned) -> io::Result<()> {
-    let entry = planned.entry;
-    let pages = planned.pages;
-    println!(rt; "{name}: planned entry={entry:#x} pages={pages}")?;
-    rt.println(
-        "    pages from            to   count  rights   memory from     bytes   file from     bytes",
-    )?;
-    let segments = &planned.segments;
-    for segment in (0..segments.count()).filter_map(|i| segments.get(i)) {
-        print_segment(rt, &segment)?;
+impl<R: Print> Report<'_, R> {
+    fn planned(&self, planned: &Planned) -> io::Result<()> {
+        let name = self.name;
+        let entry = planned.entry;
+        let pages = planned.pages;
+        println!(self.rt; "{name}: planned entry={entry:#x} pages={pages}")?;
+        self.rt.println(
+            "    pages from            to   count  rights   memory from     bytes   file from     bytes",
+        )?;
+        let segments = &planned.segments;
+        for segment in (0..segments.count()).filter_map(|i| segments.get(i)) {
+            print_segment(self.rt, &segment)?;
+        }
+        Ok(())
     }
-    Ok(())
-}
 
-pub(crate) fn print_plan(rt: &impl Print, name: &str, plan: &Plan) -> io::Result<()> {
-    match Planned::of(plan) {
-        Ok(planned) => print_planned(rt, name, &planned),
-        Err(fault) => print_refused(rt, name, &fault),
+    pub(crate) fn plan(&self, plan: &Plan) -> io::Result<()> {
+        match Planned::of(plan) {
+            Ok(planned) => self.planned(&planned),
+            Err(fault) => self.refused(&fault),
+        }
     }
-}
-
-pub(crate) fn plan_file(rt: &HostRuntime, name: &str, bias: u64) -> Result<(), Failure> {
-    let bytes = read_file(rt, name)?;
-    let opened = Opened::new(bytes.as_slice());
-    Ok(print_plan(rt, name, &Plan::new(&opened, bias))?)
 }
 
 // A byte in memory, and where it comes from, if its page is mapped.
@@ -137,52 +135,71 @@ fn print_lines(rt: &impl Print, places: &[Place]) -> io::Result<()> {
     Ok(())
 }
 
-pub(crate) fn print_bytes(
-    rt: &(impl Print + AllocGlobal),
-    name: &str,
-    plan: &Plan,
+// The most bytes that are shown at a time.
+pub(crate) const LARGEST_EXTENT: usize = 1 << 20;
+
+// The bytes that are asked for: `length` of them from an address on.
+#[derive(Clone, Copy)]
+pub(crate) struct Extent {
     address: u64,
     length: usize,
-) -> Result<(), Failure> {
-    let mut bytes = vec![in rt.alloc(); 0u8; length]?;
-    let mut origins = vec![in rt.alloc(); None; length]?;
-    let filled = plan
-        .bytes(address, bytes.as_mut_slice())
-        .and_then(|()| plan.origins(address, origins.as_mut_slice()));
-    if let Err(fault) = filled {
-        return Ok(print_refused(rt, name, &fault)?);
-    }
-    println!(rt; "{name}: bytes address={address:#x} length={length}")?;
-    let places = bytes
-        .iter()
-        .zip(origins.iter())
-        .enumerate()
-        .map(|(i, (byte, origin))| Place {
-            address: address.saturating_add(i as u64),
-            byte: *byte,
-            origin: *origin,
-        })
-        .collect::<Vec<_>>(rt.alloc())?;
-    Ok(print_lines(rt, places.as_slice())?)
+    ghost few: { length ≤ 1048576 },
 }
 
-pub(crate) fn show_bytes(
-    rt: &HostRuntime,
-    name: &str,
-    bias: u64,
-    address: u64,
-    length: u64,
-) -> Result<(), Failure> {
-    if length > 1 << 20 {
-        return Err(Failure::TooManyBytes);
+impl Extent {
+    pub(crate) fn new(address: u64, length: u64) -> Result<Extent, Failure>
+        ensures { MatchResult result (λ e. (e.address ≡ address) × (e.length ≡ length)) (λ _. 1048576 < length) }
+    {
+        if length > LARGEST_EXTENT as u64 {
+            return Err(Failure::TooManyBytes);
+        }
+        Ok(Extent {
+            address,
+            length: length as usize,
+        })
     }
-    let bytes = read_file(rt, name)?;
-    let opened = Opened::new(bytes.as_slice());
-    print_bytes(
-        rt,
-        name,
-        &Plan::new(&opened, bias),
-        address,
-        length as usize,
-    )
+}
+
+impl<R: Print + AllocGlobal> Report<'_, R> {
+    pub(crate) fn bytes(&self, plan: &Plan, extent: Extent) -> Result<(), Failure> {
+        let Extent { address, length } = extent;
+        let alloc = self.rt.alloc();
+        let mut bytes = vec![in alloc; 0u8; length]?;
+        let mut origins = vec![in alloc; None; length]?;
+        let filled = plan
+            .bytes(address, bytes.as_mut_slice())
+            .and_then(|()| plan.origins(address, origins.as_mut_slice()));
+        if let Err(fault) = filled {
+            return Ok(self.refused(&fault)?);
+        }
+        let name = self.name;
+        println!(self.rt; "{name}: bytes address={address:#x} length={length}")?;
+        let places = bytes
+            .iter()
+            .zip(origins.iter())
+            .enumerate()
+            .map(|(i, (byte, origin))| Place {
+                address: address.saturating_add(i as u64),
+                byte: *byte,
+                origin: *origin,
+            })
+            .collect::<Vec<_>>(alloc)?;
+        Ok(print_lines(self.rt, places.as_slice())?)
+    }
+}
+
+impl Report<'_, HostRuntime> {
+    // Reads the file, and says what is planned for it.
+    pub(crate) fn read_and_plan(&self, bias: u64) -> Result<(), Failure> {
+        let bytes = self.read()?;
+        let opened = Opened::new(bytes.as_slice());
+        Ok(self.plan(&Plan::new(&opened, bias))?)
+    }
+
+    // Reads the file, and shows bytes of its plan.
+    pub(crate) fn read_and_show(&self, bias: u64, extent: Extent) -> Result<(), Failure> {
+        let bytes = self.read()?;
+        let opened = Opened::new(bytes.as_slice());
+        self.bytes(&Plan::new(&opened, bias), extent)
+    }
 }

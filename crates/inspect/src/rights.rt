@@ -1,4 +1,7 @@
 // Rights of pages, as the program prints them.
+ghost use Rattle.std.specs.Prelude.{◌≡◌};
+ghost use Rattle.image.specs.Prescribed.{rights_of};
+
 use std::fmt;
 
 // The rights to read (4), write (2) and execute (1), added up.
@@ -7,9 +10,15 @@ pub(crate) struct Rights(pub(crate) u8);
 
 impl Rights {
     // The rights in a segment's flags. A writable segment is readable too.
-    pub(crate) fn of_flags(flags: u32) -> Rights {
+    pub(crate) fn of_flags(flags: u32) -> Rights
+        ensures { result.0 ≡ rights_of flags }
+    {
         let rights = (flags % 8) as u8;
-        Rights(if rights & 2 == 2 { rights | 4 } else { rights })
+        if flags / 2 % 2 == 1 && flags / 4 % 2 == 0 {
+            Rights(rights + 4)
+        } else {
+            Rights(rights)
+        }
     }
 
     // The letter of a right, where it is among these.
