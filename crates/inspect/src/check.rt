@@ -8,12 +8,12 @@ use crate::rights::Rights;
 use elf::kinds::{FileType, HeaderType, Tag};
 use elf::layout::{ELF64, PAGE};
 use elf::opened::{Opened, open};
-use elf::records::ProgramHeader;
+use elf::records::{FileHeader, ProgramHeader};
 use std::env::Args;
 use std::io;
 use std::ops::Range;
 
-// The dynamic tags that give the size of a relocation table.
+// The dynamic tags that give the sizes of relocation tables: PLTRELSZ, RELASZ, RELSZ and RELRSZ.
 #[derive(Clone, Copy)]
 enum TableSize {
     JmpRel = 2,
@@ -63,11 +63,16 @@ impl Iterator for LoadHeaders<'_> {
 
 // One line for a load segment.
 fn print_segment(rt: &impl Print, number: u32, h: &ProgramHeader) -> io::Result<()> {
-    let first = h.vaddr / PAGE;
-    let last = h.vaddr.saturating_add(h.memsz).saturating_sub(1) / PAGE;
-    let rights = Rights::of_flags(h.flags);
-    let filesz = h.filesz;
-    let memsz = h.memsz;
+    let ProgramHeader {
+        flags,
+        vaddr,
+        filesz,
+        memsz,
+        ..
+    } = *h;
+    let first = vaddr / PAGE;
+    let last = vaddr.saturating_add(memsz).saturating_sub(1) / PAGE;
+    let rights = Rights::of_flags(flags);
     println!(rt; "  {number:>6}  {first:#12x}  {last:#12x}  {rights}     {filesz:>10}  {memsz:>12}")
 }
 
@@ -93,12 +98,10 @@ fn has_ignored_relocations(opened: &Opened) -> bool {
 
 impl<R: Print> Report<'_, R> {
     fn opened(&self, opened: &Opened) -> io::Result<()> {
-        let Some(header) = opened.file_header() else {
+        let Some(FileHeader { kind, entry, .. }) = opened.file_header() else {
             return Ok(());
         };
         let name = self.name;
-        let kind = header.kind;
-        let entry = header.entry;
         let segments = LoadHeaders::of(opened).count();
         let relocations = opened.relocations();
         println!(self.rt;
@@ -142,8 +145,9 @@ pub(crate) fn check_files(rt: &HostRuntime, names: Args) -> Result<(), Failure> 
     for name in names {
         let report = Report::new(rt, name.as_str());
         match report.check() {
+            Ok(()) => {}
             Err(Failure::Unreadable) => answer = Err(Failure::SomeUnreadable),
-            other => other?,
+            Err(failure) => return Err(failure),
         }
     }
     answer

@@ -4,6 +4,7 @@ use crate::plan::Extent;
 use crate::report::Report;
 use crate::sample::MODULE;
 use elf::opened::{Opened, open};
+use elf::records::Relocation;
 use image::plan::Plan;
 use std::io;
 
@@ -11,8 +12,7 @@ fn print_relocations(rt: &impl Print, opened: &Opened) -> io::Result<()> {
     let count = opened.relocations();
     println!(rt; "its {count} relocations, each with the word it fills and its addend:")?;
     for (i, r) in (0..count).filter_map(|i| Some((i, opened.relocation(i)?))) {
-        let offset = r.offset;
-        let addend = r.addend;
+        let Relocation { offset, addend, .. } = r;
         println!(rt; "  {i:>3}  {offset:#8x}  {addend:>8}")?;
     }
     Ok(())

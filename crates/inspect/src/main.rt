@@ -56,8 +56,8 @@ fn run_bytes(rt: &HostRuntime, mut words: Args) -> Result<(), Failure> {
 
 fn run(rt: &HostRuntime) -> Result<(), Failure> {
     let mut words = env::args(rt)?;
-    let _ = words.next();
-    let Some(command) = words.next() else {
+    // The first word is the program's own name.
+    let Some(command) = words.nth(1) else {
         rt.eprint(USAGE)?;
         return Err(Failure::NoCommand);
     };

@@ -9,20 +9,24 @@ use elf::opened::Opened;
 use faults::fault::Fault;
 use image::origin::Origin;
 use image::plan::Plan;
+use image::ranges::PageRange;
 use image::segments::{Segment, Segments};
 use std::{fmt, io};
 
 fn print_segment(rt: &impl Print, s: &Segment) -> io::Result<()> {
-    let from = s.pages.first as u64 * PAGE;
-    let to = from + s.pages.count as u64 * PAGE;
-    let pages = s.pages.count;
+    let Segment {
+        address,
+        memsz,
+        offset,
+        filesz,
+        ..
+    } = *s;
+    let PageRange { first, count } = s.pages;
+    let from = first as u64 * PAGE;
+    let to = from + count as u64 * PAGE;
     let rights = Rights(s.rights);
-    let address = s.address;
-    let memsz = s.memsz;
-    let offset = s.offset;
-    let filesz = s.filesz;
     println!(rt;
-        "  {from:#12x}  {to:#12x}  {pages:>6}  {rights}     {address:#12x}  {memsz:>8}  {offset:#10x}  {filesz:>8}"
+        "  {from:#12x}  {to:#12x}  {count:>6}  {rights}     {address:#12x}  {memsz:>8}  {offset:#10x}  {filesz:>8}"
     )
 }
 
@@ -47,13 +51,15 @@ impl Planned {
 impl<R: Print> Report<'_, R> {
     fn planned(&self, planned: &Planned) -> io::Result<()> {
         let name = self.name;
-        let entry = planned.entry;
-        let pages = planned.pages;
+        let Planned {
+            entry,
+            pages,
+            segments,
+        } = planned;
         println!(self.rt; "{name}: planned entry={entry:#x} pages={pages}")?;
         self.rt.println(
             "    pages from            to   count  rights   memory from     bytes   file from     bytes",
         )?;
-        let segments = &planned.segments;
         for segment in (0..segments.count()).filter_map(|i| segments.get(i)) {
             print_segment(self.rt, &segment)?;
         }
@@ -127,7 +133,7 @@ fn print_line(rt: &impl Print, line: &[Place]) -> io::Result<()> {
 
 fn print_lines(rt: &impl Print, places: &[Place]) -> io::Result<()> {
     for line in places
-        .chunk_by(|place, next| place.continues(next))
+        .chunk_by(Place::continues)
         .flat_map(|run| run.chunks(WIDTH))
     {
         print_line(rt, line)?;

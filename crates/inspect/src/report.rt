@@ -18,11 +18,14 @@ impl<'a, R> Report<'a, R> {
 impl<R: Print> Report<'_, R> {
     pub(crate) fn refused(&self, fault: &Fault) -> io::Result<()> {
         let name = self.name;
-        let number = fault.reason.number();
-        let layer = fault.layer.number();
-        let record = fault.record;
-        let place = fault.place;
-        let reason = fault.reason;
+        let Fault {
+            reason,
+            layer,
+            record,
+            place,
+        } = *fault;
+        let number = reason.number();
+        let layer = layer.number();
         println!(self.rt;
             "{name}: refused {number} layer={layer} record={record} place={place:#x}"
         )?;
