@@ -7,6 +7,7 @@ use crate::base::BASE;
 use elf::opened::open;
 use faults::fault::Fault;
 use std::process::Abort;
+use std::test::Fail;
 
 // A number that is written into the file at an offset, lowest byte first: of 1, 2, 4 or 8 bytes.
 #[derive(Clone, Copy)]
@@ -17,19 +18,19 @@ pub(crate) enum Patch {
     Double(usize, u64),
 }
 
-fn write(file: &mut [u8], at: usize, bytes: &[u8]) {
-    if let Some(place) = file.get_mut(at..at.saturating_add(bytes.len())) {
-        place.copy_from_slice(bytes);
-    }
+// Writes bytes at an offset, if they end within the file.
+fn write<const N: usize>(file: &mut [u8], at: usize, bytes: [u8; N]) -> Option<()> {
+    *file.get_mut(at..)?.first_chunk_mut()? = bytes;
+    Some(())
 }
 
 impl Patch {
-    fn apply(self, file: &mut [u8]) {
+    fn apply(self, file: &mut [u8]) -> Option<()> {
         match self {
-            Patch::Byte(at, value) => write(file, at, &[value]),
-            Patch::Half(at, value) => write(file, at, &value.to_le_bytes()),
-            Patch::Word(at, value) => write(file, at, &value.to_le_bytes()),
-            Patch::Double(at, value) => write(file, at, &value.to_le_bytes()),
+            Patch::Byte(at, value) => write(file, at, [value]),
+            Patch::Half(at, value) => write(file, at, value.to_le_bytes()),
+            Patch::Word(at, value) => write(file, at, value.to_le_bytes()),
+            Patch::Double(at, value) => write(file, at, value.to_le_bytes()),
         }
     }
 }
@@ -44,34 +45,39 @@ pub(crate) struct Case {
 }
 
 impl Case {
-    fn patched(&self) -> [u8; 1024] {
+    fn patched(&self) -> Option<[u8; 1024]> {
         let mut file = BASE;
         for patch in self.patches {
-            patch.apply(&mut file);
+            patch.apply(&mut file)?;
         }
-        file
+        Some(file)
     }
 }
 
-fn try_cases(rt: &impl Abort, cases: &[Case]) {
+fn try_cases(rt: &impl Abort, cases: &[Case]) -> Result<(), Fail> {
     for case in cases {
-        let file = case.patched();
-        let length = case.length.min(file.len());
-        assert_eq!(rt; open(&file[..length]).err(), case.fault, "{}", case.name);
+        let file = case
+            .patched()
+            .ok_or("a patch passes the end of the base file")?;
+        let cut = file
+            .get(..case.length)
+            .ok_or("a case is longer than the base file")?;
+        assert_eq!(rt; open(cut).err(), case.fault, "{}", case.name);
     }
+    Ok(())
 }
 
 #[test]
-fn headers_are_checked(rt: HostRuntime) {
-    try_cases(&rt, &headers::CASES);
+fn headers_are_checked(rt: HostRuntime) -> Result<(), Fail> {
+    try_cases(&rt, &headers::CASES)
 }
 
 #[test]
-fn segments_are_checked(rt: HostRuntime) {
-    try_cases(&rt, &segments::CASES);
+fn segments_are_checked(rt: HostRuntime) -> Result<(), Fail> {
+    try_cases(&rt, &segments::CASES)
 }
 
 #[test]
-fn tables_are_checked(rt: HostRuntime) {
-    try_cases(&rt, &tables::CASES);
+fn tables_are_checked(rt: HostRuntime) -> Result<(), Fail> {
+    try_cases(&rt, &tables::CASES)
 }
