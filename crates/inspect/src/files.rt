@@ -27,13 +27,10 @@ fn read_some(rt: &HostRuntime, name: &str) -> Result<Vec<u8>, ReadError> {
 impl Report<'_, HostRuntime> {
     // The file's bytes; else a message on standard error says why there are none.
     pub(crate) fn read(&self) -> Result<Vec<u8>, Failure> {
-        match read_some(self.rt, self.name) {
-            Ok(bytes) => Ok(bytes),
-            Err(error) => {
-                let name = self.name;
-                eprintln!(self.rt; "inspect: {name}: {error}")?;
-                Err(Failure::Unreadable)
-            }
-        }
+        let Report { rt, name } = self;
+        read_some(rt, name).or_else(|error| {
+            eprintln!(rt; "inspect: {name}: {error}")?;
+            Err(Failure::Unreadable)
+        })
     }
 }

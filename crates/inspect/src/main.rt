@@ -15,7 +15,7 @@ mod usage;
 use check::check_files;
 use demo::demonstrate;
 use failure::Failure;
-use numbers::number;
+use numbers::Number;
 use plan::Extent;
 use report::Report;
 use std::env;
@@ -25,7 +25,8 @@ use usage::USAGE;
 // The next word as a number.
 fn next_number(words: &mut Args) -> Result<u64, Failure> {
     let word = words.next().ok_or(Failure::TooFewWords)?;
-    number(word.as_str()).ok_or(Failure::NoNumber)
+    let Number(number) = word.as_str().parse()?;
+    Ok(number)
 }
 
 // No word may be left.
