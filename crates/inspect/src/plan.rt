@@ -1,5 +1,6 @@
 // `inspect plan` and `inspect bytes`: what will stand in memory, and why.
-ghost use Rattle.std.specs.Prelude.{◌≡◌, ◌<◌, ◌≤◌, MatchResult};
+ghost use Rattle.std.specs.Prelude.{◌≡◌, ◌<◌, ◌≤◌, length, MatchResult};
+ghost use Rattle.std.specs.Iterator.{at_most};
 
 use crate::failure::Failure;
 use crate::report::Report;
@@ -74,29 +75,7 @@ impl<R: Print> Report<'_, R> {
     }
 }
 
-// A byte in memory, and where it comes from, if its page is mapped.
-#[derive(Clone, Copy)]
-struct Place {
-    address: u64,
-    byte: u8,
-    origin: Option<Origin>,
-}
-
-impl Place {
-    // Whether the next byte is of the same run.
-    fn continues(&self, next: &Place) -> bool {
-        match (self.origin, next.origin) {
-            (Some(Origin::File(a)), Some(Origin::File(b))) => a.checked_add(1) == Some(b),
-            (Some(Origin::Word(a)), Some(Origin::Word(b))) => a == b,
-            (Some(Origin::Inside), Some(Origin::Inside)) => true,
-            (Some(Origin::Around), Some(Origin::Around)) => true,
-            (None, None) => true,
-            _ => false,
-        }
-    }
-}
-
-// The origin of a run's first byte, in words.
+// Where a byte comes from, if its page is mapped.
 #[derive(Clone, Copy)]
 struct Source(Option<Origin>);
 
@@ -115,30 +94,70 @@ impl fmt::Display for Source {
 // How many bytes stand on a line.
 const WIDTH: usize = 16;
 
-// The bytes of one line, all of one run.
-fn print_line(rt: &impl Print, line: &[Place]) -> io::Result<()> {
-    let Some(first) = line.first() else {
-        return Ok(());
-    };
-    let address = first.address;
-    let source = Source(first.origin);
-    print!(rt; "  {address:#12x} ")?;
-    for place in line {
-        let byte = place.byte;
-        print!(rt; " {byte:02x}")?;
-    }
-    let gap = 3 * WIDTH.saturating_sub(line.len());
-    println!(rt; "{:gap$}  {source}", "")
+// The bytes of one line, all of one run, and where the first comes from.
+#[derive(Clone, Copy)]
+struct Line<'a> {
+    address: u64,
+    bytes: &'a [u8],
+    source: Source,
 }
 
-fn print_lines(rt: &impl Print, places: &[Place]) -> io::Result<()> {
-    for line in places
-        .chunk_by(Place::continues)
-        .flat_map(|run| run.chunks(WIDTH))
-    {
-        print_line(rt, line)?;
+impl fmt::Display for Line<'_> {
+    fn fmt<W: fmt::Write>(&self, f: &mut fmt::Formatter<W>) -> fmt::Result {
+        let Line {
+            address,
+            bytes,
+            source,
+        } = *self;
+        write!(f, "  {address:#12x} ")?;
+        for byte in bytes {
+            write!(f, " {byte:02x}")?;
+        }
+        let gap = 3 * WIDTH.saturating_sub(bytes.len());
+        write!(f, "{:gap$}  {source}", "")
     }
-    Ok(())
+}
+
+// Whether two bytes that follow one another are of one run, by their origins.
+fn continues(before: &Option<Origin>, after: &Option<Origin>) -> bool {
+    match (*before, *after) {
+        (Some(Origin::File(a)), Some(Origin::File(b))) => a.checked_add(1) == Some(b),
+        (Some(Origin::Word(a)), Some(Origin::Word(b))) => a == b,
+        (Some(Origin::Inside), Some(Origin::Inside)) => true,
+        (Some(Origin::Around), Some(Origin::Around)) => true,
+        (None, None) => true,
+        _ => false,
+    }
+}
+
+// The bytes from an address on, and where each comes from, line by line.
+#[derive(Drop)]
+struct Lines<'a> {
+    address: u64,
+    bytes: &'a [u8],
+    origins: &'a [Option<Origin>],
+}
+
+impl<'a> Iterator for Lines<'a> {
+    type Item = Line<'a>;
+
+    ghost remaining = { λ s. at_most (length s.origins.now) };
+
+    fn next(&mut self) -> Option<Line<'a>> {
+        let near = self.origins.chunks(WIDTH).next()?;
+        let run = near.chunk_by(continues).next()?;
+        let source = Source(*run.first()?);
+        let address = self.address;
+        let (bytes, rest) = self.bytes.split_at_checked(run.len())?;
+        self.address = address.saturating_add(run.len() as u64);
+        self.bytes = rest;
+        self.origins = self.origins.get(run.len()..)?;
+        Some(Line {
+            address,
+            bytes,
+            source,
+        })
+    }
 }
 
 // The most bytes that are shown at a time.
@@ -180,17 +199,15 @@ impl<R: Print + AllocGlobal> Report<'_, R> {
         }
         let name = self.name;
         println!(self.rt; "{name}: bytes address={address:#x} length={length}")?;
-        let places = bytes
-            .iter()
-            .zip(origins.iter())
-            .enumerate()
-            .map(|(i, (byte, origin))| Place {
-                address: address.saturating_add(i as u64),
-                byte: *byte,
-                origin: *origin,
-            })
-            .collect::<Vec<_>>(alloc)?;
-        Ok(print_lines(self.rt, places.as_slice())?)
+        let lines = Lines {
+            address,
+            bytes: bytes.as_slice(),
+            origins: origins.as_slice(),
+        };
+        for line in lines {
+            self.rt.println(line)?;
+        }
+        Ok(())
     }
 }
 
