@@ -1,7 +1,8 @@
 // Plans of the base file: rules 21 and 22, page ranges, rights, and which byte stands where.
 use crate::base::BASE;
+use elf::kinds::FileType;
 use elf::opened::Opened;
-use faults::fault::{Layer, Reason};
+use faults::fault::{Fault, Layer, Reason};
 use image::origin::Origin;
 use image::plan::Plan;
 use image::planning::plan;
@@ -9,42 +10,40 @@ use image::ranges::{PageRange, lowest_outside, lowest_shared};
 use std::test::Fail;
 
 // Why the base file, its type set, is refused at a bias.
-fn refusal(kind: u8, bias: u64) -> Option<(Reason, Layer, u64)> {
+fn fault_of(kind: FileType, bias: u64) -> Option<Fault> {
     let mut file = BASE;
-    file[16] = kind;
-    match plan(&Opened::new(&file), bias) {
-        Ok(_) => None,
-        Err(fault) => Some((fault.reason, fault.layer, fault.place)),
-    }
+    file[16] = kind as u8;
+    plan(&Opened::new(&file), bias).err()
 }
 
 #[test]
-fn the_bias_is_checked(rt: HostRuntime) -> Result<(), Fail> {
-    assert!(rt; refusal(3, 0).is_none(), "bias 0");
-    assert!(rt; refusal(3, 0x1000).is_none(), "a page");
-    let (reason, layer, place) = refusal(3, 0x1008).ok_or("0x1008 passed")?;
-    assert_eq!(rt; reason, Reason::BiasValue);
-    assert_eq!(rt; layer, Layer::Plan);
-    assert_eq!(rt; place, 0x1008);
-    assert!(rt; refusal(2, 0).is_none(), "a static file at 0");
-    let (reason, _, place) = refusal(2, 0x1000).ok_or("a static file moved")?;
-    assert_eq!(rt; reason, Reason::BiasValue);
-    assert_eq!(rt; place, 0x1000);
-    Ok(())
+fn the_bias_is_checked(rt: HostRuntime) {
+    assert_eq!(rt; fault_of(FileType::Independent, 0), None, "bias 0");
+    assert_eq!(rt; fault_of(FileType::Independent, 0x1000), None, "a page");
+    assert_eq!(rt;
+        fault_of(FileType::Independent, 0x1008),
+        Some(Fault::new(Layer::Plan, Reason::BiasValue, 0x1008))
+    );
+    assert_eq!(rt; fault_of(FileType::Static, 0), None, "a static file at 0");
+    assert_eq!(rt;
+        fault_of(FileType::Static, 0x1000),
+        Some(Fault::new(Layer::Plan, Reason::BiasValue, 0x1000)),
+        "a static file moved"
+    );
 }
 
 // The base file ends at 0x2200, so the last bias that fits is 2^38 - 0x3000.
 #[test]
-fn the_largest_bias(rt: HostRuntime) -> Result<(), Fail> {
-    assert!(rt;
-        refusal(3, (1 << 38) - 0x3000).is_none(),
+fn the_largest_bias(rt: HostRuntime) {
+    assert_eq!(rt;
+        fault_of(FileType::Independent, (1 << 38) - 0x3000),
+        None,
         "the largest bias"
     );
-    let (reason, layer, place) = refusal(3, (1 << 38) - 0x2000).ok_or("it passed")?;
-    assert_eq!(rt; reason, Reason::BiasEnd);
-    assert_eq!(rt; layer, Layer::Plan);
-    assert_eq!(rt; place, (1 << 38) - 0x2000);
-    Ok(())
+    assert_eq!(rt;
+        fault_of(FileType::Independent, (1 << 38) - 0x2000),
+        Some(Fault::new(Layer::Plan, Reason::BiasEnd, (1 << 38) - 0x2000))
+    );
 }
 
 #[test]
@@ -117,20 +116,16 @@ fn the_last_relocation_decides(rt: HostRuntime) -> Result<(), Fail> {
 
 // A plan made past a refused check answers that fault, and leaves a buffer as it was.
 #[test]
-fn a_plan_past_a_refused_check(rt: HostRuntime) -> Result<(), Fail> {
+fn a_plan_past_a_refused_check(rt: HostRuntime) {
     let mut file = BASE;
     file[0] = 0;
     let opened = Opened::new(&file);
     let plan = Plan::new(&opened, 8);
-    let Err(fault) = plan.pages() else {
-        return Err(Fail::new("it has pages"));
-    };
-    assert_eq!(rt; fault.reason, Reason::Magic);
-    assert_eq!(rt; fault.layer, Layer::Open);
+    let fault = Fault::new(Layer::Open, Reason::Magic, 0);
+    assert_eq!(rt; plan.pages(), Err(fault));
     let mut word = [7u8; 8];
-    assert!(rt; plan.bytes(0, &mut word).is_err());
+    assert_eq!(rt; plan.bytes(0, &mut word), Err(fault));
     assert_eq!(rt; word, [7; 8]);
-    Ok(())
 }
 
 #[test]

@@ -1,26 +1,27 @@
 // The largest file, the most segments, and what an opened file answers of its parts.
 use crate::base::BASE;
+use elf::kinds::HeaderType;
 use elf::opened::{Opened, open};
-use faults::fault::Reason;
-use std::alloc::Global;
+use faults::fault::{Fault, Layer, Reason};
+use std::alloc::{AllocError, Global};
 use std::test::Fail;
 
 // Why a file of that many zeros is refused.
-fn refusal_of_zeros(heap: Global, length: usize) -> Result<Option<(Reason, u64)>, Fail> {
+fn fault_of_zeros(heap: Global, length: usize) -> Result<Option<Fault>, AllocError> {
     let file = vec![in heap; 0u8; length]?;
-    match open(file.as_slice()) {
-        Ok(_) => Ok(None),
-        Err(fault) => Ok(Some((fault.reason, fault.place))),
-    }
+    Ok(open(file.as_slice()).err())
 }
 
 #[test]
 fn the_largest_file(rt: HostRuntime) -> Result<(), Fail> {
-    let (reason, place) = refusal_of_zeros(rt.alloc(), 16_777_217)?.ok_or("opened")?;
-    assert_eq!(rt; reason, Reason::FileLength);
-    assert_eq!(rt; place, 16_777_217);
-    let (reason, _) = refusal_of_zeros(rt.alloc(), 16_777_216)?.ok_or("opened")?;
-    assert_eq!(rt; reason, Reason::Magic);
+    assert_eq!(rt;
+        fault_of_zeros(rt.alloc(), 16_777_217)?,
+        Some(Fault::new(Layer::Open, Reason::FileLength, 16_777_217))
+    );
+    assert_eq!(rt;
+        fault_of_zeros(rt.alloc(), 16_777_216)?,
+        Some(Fault::new(Layer::Open, Reason::Magic, 0))
+    );
     Ok(())
 }
 
@@ -28,28 +29,29 @@ fn the_largest_file(rt: HostRuntime) -> Result<(), Fail> {
 fn all_load(count: u8) -> [u8; 1024] {
     let mut file = BASE;
     file[56] = count;
-    for i in 0..count.min(17) as usize {
-        file[64 + 56 * i] = 1;
-        file[64 + 56 * i + 1] = 0;
-        file[64 + 56 * i + 2] = 0;
-        file[64 + 56 * i + 3] = 0;
+    for header in file[64..].chunks_exact_mut(56).take(count as usize) {
+        if let Some(kind) = header.first_chunk_mut() {
+            *kind = (HeaderType::Load as u32).to_le_bytes();
+        }
     }
     file
 }
 
 #[test]
-fn at_most_sixteen_segments(rt: HostRuntime) -> Result<(), Fail> {
-    let Err(fault) = open(&all_load(17)) else {
-        return Err(Fail::new("17 segments opened"));
-    };
-    assert_eq!(rt; fault.reason, Reason::LoadCount);
-    assert_eq!(rt; fault.place, 56);
-    let Err(fault) = open(&all_load(16)) else {
-        return Err(Fail::new("segments of zeros opened"));
-    };
-    assert_eq!(rt; fault.reason, Reason::SegmentSize);
-    assert_eq!(rt; fault.record, 4);
-    Ok(())
+fn at_most_sixteen_segments(rt: HostRuntime) {
+    assert_eq!(rt;
+        open(&all_load(17)).err(),
+        Some(Fault::new(Layer::Open, Reason::LoadCount, 56))
+    );
+    assert_eq!(rt;
+        open(&all_load(16)).err(),
+        Some(Fault {
+            reason: Reason::SegmentSize,
+            layer: Layer::Open,
+            record: 4,
+            place: 64 + 4 * 56,
+        })
+    );
 }
 
 #[test]

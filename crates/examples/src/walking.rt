@@ -4,35 +4,28 @@ use sv39::walk::walk;
 
 const BASE: u64 = 0x8000_0000;
 
-// Entry k of the table; the others are 0.
-fn entry_at(k: usize) -> u64 {
-    match k {
-        // the table itself; behind the memory; before the memory; itself with A set
-        1 => 0x2000_0001,
-        2 => 0x2000_0401,
-        3 => 0x1fff_fc01,
-        4 => 0x2000_0041,
-        // 0x80005000 to read and write; without V; without R; with bit 54
-        5 => 0x2000_14d7,
-        6 => 0x2000_14d6,
-        7 => 0x2000_14d5,
-        8 => 0x0040_0000_2000_14d7,
-        // 0x80200000 to read and execute
-        9 => 0x2008_005b,
-        _ => 0,
-    }
-}
-
-fn byte_at(k: usize) -> u8 {
-    let bytes = entry_at(k / 8).to_le_bytes();
-    bytes[k % 8]
-}
+// The first entries of the table; the others are 0.
+const ENTRIES: [u64; 10] = [
+    0,
+    // the table itself; behind the memory; before the memory; itself with A set
+    0x2000_0001,
+    0x2000_0401,
+    0x1fff_fc01,
+    0x2000_0041,
+    // 0x80005000 to read and write; without V; without R; with bit 54
+    0x2000_14d7,
+    0x2000_14d6,
+    0x2000_14d5,
+    0x0040_0000_2000_14d7,
+    // 0x80200000 to read and execute
+    0x2008_005b,
+];
 
 // The memory: one table.
 fn table() -> [u8; 4096] {
     let mut memory = [0; 4096];
-    for k in 0..80 {
-        memory[k] = byte_at(k);
+    for (place, entry) in memory.chunks_exact_mut(8).zip(ENTRIES) {
+        place.copy_from_slice(&entry.to_le_bytes());
     }
     memory
 }

@@ -1,157 +1,154 @@
 // `inspect check`: whether the loader takes a file.
+ghost use Rattle.std.specs.Prelude.{◌-◌};
+ghost use Rattle.std.specs.Iterator.{at_most};
+
 use crate::failure::Failure;
-use crate::files::read_file;
+use crate::report::Report;
+use crate::rights::Rights;
+use elf::kinds::{FileType, HeaderType, Tag};
+use elf::layout::{ELF64, PAGE};
 use elf::opened::{Opened, open};
-use elf::records::ProgramHeader;
-use faults::fault::Fault;
+use elf::records::{FileHeader, ProgramHeader};
 use std::env::Args;
 use std::io;
-
-// The type of a program header that describes a segment.
-const LOAD: u32 = 1;
-
-// The type of a static file.
-const STATIC: u16 = 2;
+use std::ops::Range;
 
 // The dynamic tags that give the sizes of relocation tables: PLTRELSZ, RELASZ, RELSZ and RELRSZ.
-const TABLE_SIZES: [u64; 4] = [2, 8, 18, 35];
-
-fn letter(set: bool, letter: char) -> char {
-    if set { letter } else { '-' }
+#[derive(Clone, Copy)]
+enum TableSize {
+    JmpRel = 2,
+    Rela = 8,
+    Rel = 18,
+    Relr = 35,
 }
 
-// Rights as letters: read, write, execute.
-pub(crate) fn letters(rights: u8) -> (char, char, char) {
-    let r = letter(rights / 4 % 2 == 1, 'r');
-    let w = letter(rights / 2 % 2 == 1, 'w');
-    let x = letter(rights % 2 == 1, 'x');
-    (r, w, x)
+impl TableSize {
+    const ALL: [TableSize; 4] = [
+        TableSize::JmpRel,
+        TableSize::Rela,
+        TableSize::Rel,
+        TableSize::Relr,
+    ];
 }
 
-// How many load headers an opened file has.
-fn segments(opened: &Opened) -> u32 {
-    let mut count = 0u32;
-    for i in 0..64 {
-        if let Some(h) = opened.header(i) {
-            if h.kind == LOAD {
-                count = count.saturating_add(1);
-            }
+// The load headers of a file, each with its number among all headers.
+#[derive(Drop)]
+struct LoadHeaders<'a> {
+    opened: &'a Opened<'a>,
+    numbers: Range<u32>,
+}
+
+impl<'a> LoadHeaders<'a> {
+    fn of(opened: &'a Opened<'a>) -> LoadHeaders<'a> {
+        LoadHeaders {
+            opened,
+            numbers: 0..u32::from(ELF64.limits.headers),
         }
     }
-    count
 }
 
-// One line for a load segment. A writable segment is readable too.
+impl Iterator for LoadHeaders<'_> {
+    type Item = (u32, ProgramHeader);
+
+    ghost remaining = { λ s. at_most (s.numbers.end - s.numbers.start) };
+
+    fn next(&mut self) -> Option<(u32, ProgramHeader)> {
+        let opened = self.opened;
+        self.numbers.find_map(|i| {
+            let header = opened.header(i)?;
+            header.is(HeaderType::Load).then_some((i, header))
+        })
+    }
+}
+
+// One line for a load segment.
 fn print_segment(rt: &impl Print, number: u32, h: &ProgramHeader) -> io::Result<()> {
-    let first = h.vaddr / 4096;
-    let last = h.vaddr.saturating_add(h.memsz).saturating_sub(1) / 4096;
-    let write = h.flags / 2 % 2 == 1;
-    let r = letter(h.flags / 4 % 2 == 1 || write, 'r');
-    let w = letter(write, 'w');
-    let x = letter(h.flags % 2 == 1, 'x');
-    let filesz = h.filesz;
-    let memsz = h.memsz;
-    println!(rt;
-        "  {number:>6}  {first:#12x}  {last:#12x}  {r}{w}{x}     {filesz:>10}  {memsz:>12}"
-    )
+    let ProgramHeader {
+        flags,
+        vaddr,
+        filesz,
+        memsz,
+        ..
+    } = *h;
+    let first = vaddr / PAGE;
+    let last = vaddr.saturating_add(memsz).saturating_sub(1) / PAGE;
+    let rights = Rights::of_flags(flags);
+    println!(rt; "  {number:>6}  {first:#12x}  {last:#12x}  {rights}     {filesz:>10}  {memsz:>12}")
 }
 
-pub(crate) fn print_segments(rt: &impl Print, opened: &Opened) -> io::Result<()> {
+fn print_segments(rt: &impl Print, opened: &Opened) -> io::Result<()> {
     rt.println("  header    first page     last page  rights  file bytes  memory bytes")?;
-    for i in 0..64 {
-        if let Some(h) = opened.header(i) {
-            if h.kind == LOAD {
-                print_segment(rt, i, &h)?;
-            }
-        }
+    for (number, header) in LoadHeaders::of(opened) {
+        print_segment(rt, number, &header)?;
     }
     Ok(())
-}
-
-pub(crate) fn print_opened(rt: &impl Print, name: &str, opened: &Opened) -> io::Result<()> {
-    let Some(header) = opened.file_header() else {
-        return Ok(());
-    };
-    let kind = header.kind;
-    let entry = header.entry;
-    let segments = segments(opened);
-    let relocations = opened.relocations();
-    println!(rt;
-        "{name}: opened type={kind} entry={entry:#x} segments={segments} relocations={relocations}"
-    )?;
-    print_segments(rt, opened)
-}
-
-pub(crate) fn print_refused(rt: &impl Print, name: &str, fault: &Fault) -> io::Result<()> {
-    let number = fault.reason.number();
-    let layer = fault.layer.number();
-    let record = fault.record;
-    let place = fault.place;
-    let reason = fault.reason;
-    println!(rt; "{name}: refused {number} layer={layer} record={record} place={place:#x}")?;
-    println!(rt; "  {reason}")
 }
 
 // Whether a static file has relocations, which the loader does not apply.
-pub(crate) fn has_ignored_relocations(opened: &Opened) -> bool {
-    let Some(header) = opened.file_header() else {
-        return false;
-    };
-    if header.kind != STATIC {
-        return false;
-    }
-    for i in 0..65_536 {
-        let Some(entry) = opened.dynamic_entry(i) else {
-            return false;
+fn has_ignored_relocations(opened: &Opened) -> bool {
+    opened
+        .file_header()
+        .is_some_and(|header| header.is(FileType::Static))
+        && (0..65_536)
+            .map_while(|i| opened.dynamic_entry(i))
+            .take_while(|entry| !entry.is(Tag::Null))
+            .filter(|entry| entry.value != 0)
+            .any(|entry| { TableSize::ALL.iter().any(|size| entry.tag == *size as u64) })
+}
+
+impl<R: Print> Report<'_, R> {
+    fn opened(&self, opened: &Opened) -> io::Result<()> {
+        let Some(FileHeader { kind, entry, .. }) = opened.file_header() else {
+            return Ok(());
         };
-        if entry.tag == 0 {
-            return false;
-        }
-        if entry.value != 0 && TABLE_SIZES.contains(&entry.tag) {
-            return true;
-        }
-    }
-    false
-}
-
-pub(crate) fn print_answer(rt: &(impl Print + Eprint), name: &str, file: &[u8]) -> io::Result<()> {
-    match open(file) {
-        Err(fault) => print_refused(rt, name, &fault),
-        Ok(opened) => {
-            print_opened(rt, name, &opened)?;
-            if has_ignored_relocations(&opened) {
-                eprintln!(rt;
-                    "inspect: {name}: warning: a static file with relocations: the loader does not apply them"
-                )?;
-            }
-            Ok(())
-        }
+        let name = self.name;
+        let segments = LoadHeaders::of(opened).count();
+        let relocations = opened.relocations();
+        println!(self.rt;
+            "{name}: opened type={kind} entry={entry:#x} segments={segments} relocations={relocations}"
+        )?;
+        print_segments(self.rt, opened)
     }
 }
 
-// One answer, or a message why the file could not be read: then false.
-fn check_file(rt: &HostRuntime, name: &str) -> io::Result<bool> {
-    let Some(bytes) = read_file(rt, name)? else {
-        return Ok(false);
-    };
-    print_answer(rt, name, bytes.as_slice())?;
-    Ok(true)
+impl<R: Print + Eprint> Report<'_, R> {
+    // What opening answers, with a warning where the loader leaves something undone.
+    pub(crate) fn answer(&self, file: &[u8]) -> io::Result<()> {
+        let opened = match open(file) {
+            Ok(opened) => opened,
+            Err(fault) => return self.refused(&fault),
+        };
+        self.opened(&opened)?;
+        if has_ignored_relocations(&opened) {
+            let name = self.name;
+            eprintln!(self.rt;
+                "inspect: {name}: warning: a static file with relocations: the loader does not apply them"
+            )?;
+        }
+        Ok(())
+    }
 }
 
+impl Report<'_, HostRuntime> {
+    fn check(&self) -> Result<(), Failure> {
+        let bytes = self.read()?;
+        Ok(self.answer(bytes.as_slice())?)
+    }
+}
+
+// One answer or one message for each file.
 pub(crate) fn check_files(rt: &HostRuntime, names: Args) -> Result<(), Failure> {
-    let mut some = false;
-    let mut all = true;
+    if names.len() == 0 {
+        return Err(Failure::NoFile("check"));
+    }
+    let mut answer = Ok(());
     for name in names {
-        some = true;
-        if !check_file(rt, name.as_str())? {
-            all = false;
+        let report = Report::new(rt, name.as_str());
+        match report.check() {
+            Ok(()) => {}
+            Err(Failure::Unreadable) => answer = Err(Failure::SomeUnreadable),
+            Err(failure) => return Err(failure),
         }
     }
-    if !some {
-        return Err("check: no file is named".into());
-    }
-    if !all {
-        return Err("a file could not be read".into());
-    }
-    Ok(())
+    answer
 }

@@ -1,21 +1,19 @@
 // `inspect demo`: a whole task on a module that is part of the program.
-use crate::check::print_answer;
 use crate::failure::Failure;
-use crate::plan::{print_bytes, print_plan};
+use crate::plan::Extent;
+use crate::report::Report;
 use crate::sample::MODULE;
 use elf::opened::{Opened, open};
+use elf::records::Relocation;
 use image::plan::Plan;
 use std::io;
 
 fn print_relocations(rt: &impl Print, opened: &Opened) -> io::Result<()> {
     let count = opened.relocations();
     println!(rt; "its {count} relocations, each with the word it fills and its addend:")?;
-    for i in 0..count {
-        if let Some(r) = opened.relocation(i) {
-            let offset = r.offset;
-            let addend = r.addend;
-            println!(rt; "  {i:>3}  {offset:#8x}  {addend:>8}")?;
-        }
+    for (i, r) in (0..count).filter_map(|i| Some((i, opened.relocation(i)?))) {
+        let Relocation { offset, addend, .. } = r;
+        println!(rt; "  {i:>3}  {offset:#8x}  {addend:>8}")?;
     }
     Ok(())
 }
@@ -24,43 +22,79 @@ fn print_relocations(rt: &impl Print, opened: &Opened) -> io::Result<()> {
 const BIAS: u64 = 0x10000;
 
 // Plans the module and shows its pointer table.
-fn plan_module(rt: &HostRuntime, opened: &Opened) -> Result<(), Failure> {
+fn plan_module(report: &Report<'_, HostRuntime>, opened: &Opened) -> Result<(), Failure> {
+    let rt = report.rt;
     println!(rt; "planning it at bias {BIAS:#x}")?;
     let plan = Plan::new(opened, BIAS);
-    print_plan(rt, "module", &plan)?;
+    report.plan(&plan)?;
     rt.println("the bytes around its pointer table, once it is loaded")?;
-    print_bytes(rt, rt.alloc(), "module", &plan, BIAS + 0x23a8, 112)?;
+    report.bytes(&plan, Extent::new(BIAS + 0x23a8, 112)?)?;
     println!(rt;
         "planning it at bias {:#x}, which is no multiple of a page",
         BIAS + 8
     )?;
-    print_plan(rt, "module", &Plan::new(opened, BIAS + 8))?;
-    Ok(())
+    Ok(report.plan(&Plan::new(opened, BIAS + 8))?)
 }
 
-// A copy of the module with one byte changed, and what the loader says of it.
-fn damage(rt: &HostRuntime, what: &str, at: usize, byte: u8) -> Result<(), Failure> {
+// A byte of the module that is changed, and the value that it gets.
+struct Damage {
+    what: &'static str,
+    at: usize,
+    byte: u8,
+}
+
+const DAMAGES: [Damage; 5] = [
+    Damage {
+        what: "the magic number",
+        at: 1,
+        byte: 0,
+    },
+    Damage {
+        what: "the machine",
+        at: 18,
+        byte: 62,
+    },
+    Damage {
+        what: "the flags of header 1",
+        at: 0x7c,
+        byte: 7,
+    },
+    Damage {
+        what: "the entry point",
+        at: 24,
+        byte: 0x45,
+    },
+    Damage {
+        what: "the type of the last relocation",
+        at: 0x1c0 + 24 * 7 + 8,
+        byte: 2,
+    },
+];
+
+// What the loader says of a damaged copy of the module.
+fn print_damaged(rt: &HostRuntime, damage: &Damage) -> io::Result<()> {
     let mut copy = MODULE;
-    if at < copy.len() {
-        copy[at] = byte;
+    if let Some(byte) = copy.get_mut(damage.at) {
+        *byte = damage.byte;
     }
+    let what = damage.what;
     println!(rt; "{what}:")?;
-    print_answer(rt, "damaged", &copy)?;
-    Ok(())
+    let report = Report::new(rt, "damaged");
+    report.answer(&copy)
 }
 
 pub(crate) fn demonstrate(rt: &HostRuntime) -> Result<(), Failure> {
     let length = MODULE.len();
     println!(rt; "opening the embedded module, {length} bytes")?;
-    print_answer(rt, "module", &MODULE)?;
+    let report = Report::new(rt, "module");
+    report.answer(&MODULE)?;
     if let Ok(opened) = open(&MODULE) {
         print_relocations(rt, &opened)?;
-        plan_module(rt, &opened)?;
+        plan_module(&report, &opened)?;
     }
     rt.println("and damaged copies of it")?;
-    damage(rt, "the magic number", 1, 0)?;
-    damage(rt, "the machine", 18, 62)?;
-    damage(rt, "the flags of header 1", 0x7c, 7)?;
-    damage(rt, "the entry point", 24, 0x45)?;
-    damage(rt, "the type of the last relocation", 0x1c0 + 24 * 7 + 8, 2)
+    for damage in &DAMAGES {
+        print_damaged(rt, damage)?;
+    }
+    Ok(())
 }

@@ -1,41 +1,45 @@
 // Why the program ends with status 1.
+use crate::plan::LARGEST_EXTENT;
 use std::alloc::AllocError;
 use std::{fmt, io};
+use thiserror::Error;
 
-#[derive(Drop)]
+#[derive(Drop, Error)]
 pub(crate) enum Failure {
-    // The command line is wrong, or a file could not be read.
-    Text(&'static str),
+    #[error("no command")]
+    NoCommand,
+    #[error("no such command")]
+    UnknownCommand,
+    // The command of this name got no file.
+    #[error("{0}: no file is named")]
+    NoFile(&'static str),
+    #[error("too few words: see inspect --help")]
+    TooFewWords,
+    #[error("too many words: see inspect --help")]
+    TooManyWords,
+    #[error("a word is no number: decimal, or hexadecimal after 0x")]
+    NoNumber,
+    #[error("bytes: at most {most} bytes at a time", most = LARGEST_EXTENT)]
+    TooManyBytes,
+    #[error("the file could not be read")]
+    Unreadable,
+    // One of several files.
+    #[error("a file could not be read")]
+    SomeUnreadable,
     // The arguments could not be had, or a write failed.
-    Io(io::Error),
-    Memory(AllocError),
+    #[error(transparent)]
+    Io(#[from] io::Error),
+    #[error(transparent)]
+    Memory(#[from] AllocError),
 }
 
 // What `main` prints behind 'Error: ': a text in quotes, or the error as it is.
 impl fmt::Debug for Failure {
     fn fmt<W: fmt::Write>(&self, f: &mut fmt::Formatter<W>) -> fmt::Result {
         match self {
-            Failure::Text(text) => write!(f, "{text:?}"),
             Failure::Io(error) => write!(f, "{error:?}"),
             Failure::Memory(error) => write!(f, "{error:?}"),
+            failure => write!(f, "\"{failure}\""),
         }
-    }
-}
-
-impl From<&'static str> for Failure {
-    fn from(text: &'static str) -> Failure {
-        Failure::Text(text)
-    }
-}
-
-impl From<io::Error> for Failure {
-    fn from(error: io::Error) -> Failure {
-        Failure::Io(error)
-    }
-}
-
-impl From<AllocError> for Failure {
-    fn from(error: AllocError) -> Failure {
-        Failure::Memory(error)
     }
 }

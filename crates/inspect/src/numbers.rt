@@ -1,35 +1,35 @@
 // Numbers on the command line: decimal, or hexadecimal after 0x.
+ghost use Rattle.std.specs.Prelude.{◌≤◌};
 
-fn digit(byte: u8) -> Option<u64> {
-    match byte {
-        b'0'..=b'9' => Some((byte - b'0') as u64),
-        b'a'..=b'f' => Some((byte - b'a') as u64 + 10),
-        b'A'..=b'F' => Some((byte - b'A') as u64 + 10),
-        _ => None,
-    }
-}
+use crate::failure::Failure;
+use std::str::FromStr;
 
-fn digits(bytes: &[u8], base: u64) -> Option<u64> {
-    if bytes.is_empty() {
+// The number of at least one digit. The library's parsing takes a sign too.
+fn digits(word: &str, radix: u32) -> Option<u64>
+    requires { (2 ≤ radix) × (radix ≤ 36) }
+{
+    if word.is_empty() {
         return None;
     }
-    let mut number = 0u64;
-    for byte in bytes {
-        let value = digit(*byte)?;
-        if value >= base {
-            return None;
-        }
-        number = number.checked_mul(base)?.checked_add(value)?;
-    }
-    Some(number)
+    word.chars().try_fold(0u64, |number, letter| {
+        number
+            .checked_mul(radix as u64)?
+            .checked_add(letter.to_digit(radix)? as u64)
+    })
 }
 
 // The number that a word stands for.
-pub(crate) fn number(word: &str) -> Option<u64> {
-    let bytes = word.as_bytes();
-    if bytes.len() > 2 && bytes[0] == b'0' && (bytes[1] == b'x' || bytes[1] == b'X') {
-        let length = bytes.len();
-        return digits(&bytes[2..length], 16);
+#[derive(Clone, Copy)]
+pub(crate) struct Number(pub(crate) u64);
+
+impl FromStr for Number {
+    type Err = Failure;
+
+    fn from_str(word: &str) -> Result<Number, Failure> {
+        let number = match word.strip_prefix("0x").or_else(|| word.strip_prefix("0X")) {
+            Some(hexadecimal) => digits(hexadecimal, 16),
+            None => digits(word, 10),
+        };
+        number.map(Number).ok_or(Failure::NoNumber)
     }
-    digits(bytes, 10)
 }

@@ -1,60 +1,127 @@
 // `inspect plan` and `inspect bytes`: what will stand in memory, and why.
-use crate::check::{letters, print_refused};
+ghost use Rattle.std.specs.Prelude.{◌≡◌, ◌<◌, ◌≤◌, length, MatchResult};
+ghost use Rattle.std.specs.Iterator.{at_most};
+
 use crate::failure::Failure;
-use crate::files::read_file;
+use crate::report::Report;
+use crate::rights::Rights;
+use elf::layout::PAGE;
 use elf::opened::Opened;
+use faults::fault::Fault;
 use image::origin::Origin;
 use image::plan::Plan;
-use image::segments::Segment;
-use std::alloc::Global;
-use std::io;
+use image::ranges::PageRange;
+use image::segments::{Segment, Segments};
+use std::{fmt, io};
 
 fn print_segment(rt: &impl Print, s: &Segment) -> io::Result<()> {
-    let from = s.pages.first as u64 * 4096;
-    let to = from + s.pages.count as u64 * 4096;
-    let pages = s.pages.count;
-    let (r, w, x) = letters(s.rights);
-    let address = s.address;
-    let memsz = s.memsz;
-    let offset = s.offset;
-    let filesz = s.filesz;
+    let Segment {
+        address,
+        memsz,
+        offset,
+        filesz,
+        ..
+    } = *s;
+    let PageRange { first, count } = s.pages;
+    let from = first as u64 * PAGE;
+    let to = from + count as u64 * PAGE;
+    let rights = Rights(s.rights);
     println!(rt;
-        "  {from:#12x}  {to:#12x}  {pages:>6}  {r}{w}{x}     {address:#12x}  {memsz:>8}  {offset:#10x}  {filesz:>8}"
+        "  {from:#12x}  {to:#12x}  {count:>6}  {rights}     {address:#12x}  {memsz:>8}  {offset:#10x}  {filesz:>8}"
     )
 }
 
-pub(crate) fn print_plan(rt: &impl Print, name: &str, plan: &Plan) -> io::Result<()> {
-    let segments = match plan.segments() {
-        Ok(segments) => segments,
-        Err(fault) => return print_refused(rt, name, &fault),
-    };
-    if let (Ok(entry), Ok(pages)) = (plan.entry(), plan.pages()) {
-        println!(rt; "{name}: planned entry={entry:#x} pages={pages}")?;
+// What is planned for a file.
+#[derive(Drop)]
+struct Planned {
+    entry: u64,
+    pages: u32,
+    segments: Segments,
+}
+
+impl Planned {
+    fn of(plan: &Plan) -> Result<Planned, Fault> {
+        Ok(Planned {
+            entry: plan.entry()?,
+            pages: plan.pages()?,
+            segments: plan.segments()?,
+        })
     }
-    rt.println(
-        "    pages from            to   count  rights   memory from     bytes   file from     bytes",
-    )?;
-    for i in 0..segments.count() {
-        if let Some(segment) = segments.get(i) {
-            print_segment(rt, &segment)?;
+}
+
+impl<R: Print> Report<'_, R> {
+    fn planned(&self, planned: &Planned) -> io::Result<()> {
+        let name = self.name;
+        let Planned {
+            entry,
+            pages,
+            segments,
+        } = planned;
+        println!(self.rt; "{name}: planned entry={entry:#x} pages={pages}")?;
+        self.rt.println(
+            "    pages from            to   count  rights   memory from     bytes   file from     bytes",
+        )?;
+        for segment in (0..segments.count()).filter_map(|i| segments.get(i)) {
+            print_segment(self.rt, &segment)?;
+        }
+        Ok(())
+    }
+
+    pub(crate) fn plan(&self, plan: &Plan) -> io::Result<()> {
+        match Planned::of(plan) {
+            Ok(planned) => self.planned(&planned),
+            Err(fault) => self.refused(&fault),
         }
     }
-    Ok(())
 }
 
-pub(crate) fn plan_file(rt: &HostRuntime, name: &str, bias: u64) -> Result<(), Failure> {
-    let Some(bytes) = read_file(rt, name)? else {
-        return Err("the file could not be read".into());
-    };
-    let opened = Opened::new(bytes.as_slice());
-    print_plan(rt, name, &Plan::new(&opened, bias))?;
-    Ok(())
+// Where a byte comes from, if its page is mapped.
+#[derive(Clone, Copy)]
+struct Source(Option<Origin>);
+
+impl fmt::Display for Source {
+    fn fmt<W: fmt::Write>(&self, f: &mut fmt::Formatter<W>) -> fmt::Result {
+        match self.0 {
+            Some(Origin::File(offset)) => write!(f, "file {offset:#x}"),
+            Some(Origin::Word(number)) => write!(f, "relocation {number}"),
+            Some(Origin::Inside) => f.write_str("zero, in the segment"),
+            Some(Origin::Around) => f.write_str("zero, around the segment"),
+            None => f.write_str("not mapped"),
+        }
+    }
 }
 
-// Whether two bytes that follow one another are of one run.
-fn continues(before: Option<Origin>, after: Option<Origin>) -> bool {
-    match (before, after) {
-        (Some(Origin::File(a)), Some(Origin::File(b))) => a < b && b - a == 1,
+// How many bytes stand on a line.
+const WIDTH: usize = 16;
+
+// The bytes of one line, all of one run, and where the first comes from.
+#[derive(Clone, Copy)]
+struct Line<'a> {
+    address: u64,
+    bytes: &'a [u8],
+    source: Source,
+}
+
+impl fmt::Display for Line<'_> {
+    fn fmt<W: fmt::Write>(&self, f: &mut fmt::Formatter<W>) -> fmt::Result {
+        let Line {
+            address,
+            bytes,
+            source,
+        } = *self;
+        write!(f, "  {address:#12x} ")?;
+        for byte in bytes {
+            write!(f, " {byte:02x}")?;
+        }
+        let gap = 3 * WIDTH.saturating_sub(bytes.len());
+        write!(f, "{:gap$}  {source}", "")
+    }
+}
+
+// Whether two bytes that follow one another are of one run, by their origins.
+fn continues(before: &Option<Origin>, after: &Option<Origin>) -> bool {
+    match (*before, *after) {
+        (Some(Origin::File(a)), Some(Origin::File(b))) => a.checked_add(1) == Some(b),
         (Some(Origin::Word(a)), Some(Origin::Word(b))) => a == b,
         (Some(Origin::Inside), Some(Origin::Inside)) => true,
         (Some(Origin::Around), Some(Origin::Around)) => true,
@@ -63,113 +130,99 @@ fn continues(before: Option<Origin>, after: Option<Origin>) -> bool {
     }
 }
 
-fn print_origin(rt: &impl Print, origin: Option<Origin>) -> io::Result<()> {
-    match origin {
-        Some(Origin::File(offset)) => println!(rt; "  file {offset:#x}"),
-        Some(Origin::Word(number)) => println!(rt; "  relocation {number}"),
-        Some(Origin::Inside) => rt.println("  zero, in the segment"),
-        Some(Origin::Around) => rt.println("  zero, around the segment"),
-        None => rt.println("  not mapped"),
-    }
-}
-
-// The bytes of one line: at most 16, all of one run.
-fn print_line(
-    rt: &impl Print,
+// The bytes from an address on, and where each comes from, line by line.
+#[derive(Drop)]
+struct Lines<'a> {
     address: u64,
-    bytes: &[u8],
-    origin: Option<Origin>,
-) -> io::Result<()> {
-    print!(rt; "  {address:#12x} ")?;
-    for byte in bytes {
-        print!(rt; " {byte:02x}")?;
-    }
-    for _ in bytes.len()..16 {
-        print!(rt; "   ")?;
-    }
-    print_origin(rt, origin)
+    bytes: &'a [u8],
+    origins: &'a [Option<Origin>],
 }
 
-// How many of the first bytes stand on one line.
-fn line_length(origins: &[Option<Origin>]) -> usize {
-    let mut length = 0;
-    for i in 0..origins.len().min(16) {
-        if i > 0 && !continues(origins[i - 1], origins[i]) {
-            return length;
-        }
-        length = i + 1;
+impl<'a> Iterator for Lines<'a> {
+    type Item = Line<'a>;
+
+    ghost remaining = { λ s. at_most (length s.origins.now) };
+
+    fn next(&mut self) -> Option<Line<'a>> {
+        let near = self.origins.chunks(WIDTH).next()?;
+        let run = near.chunk_by(continues).next()?;
+        let source = Source(*run.first()?);
+        let address = self.address;
+        let (bytes, rest) = self.bytes.split_at_checked(run.len())?;
+        self.address = address.saturating_add(run.len() as u64);
+        self.bytes = rest;
+        self.origins = self.origins.get(run.len()..)?;
+        Some(Line {
+            address,
+            bytes,
+            source,
+        })
     }
-    length
 }
 
-fn print_lines(
-    rt: &impl Print,
-    address: u64,
-    bytes: &[u8],
-    origins: &[Option<Origin>],
-) -> io::Result<()> {
-    let mut at = 0;
-    for _ in 0..bytes.len() {
-        if at >= bytes.len() || at >= origins.len() {
-            return Ok(());
-        }
-        let total = origins.len();
-        let length = line_length(&origins[at..total]);
-        let end = at.saturating_add(length).min(bytes.len());
-        print_line(
-            rt,
-            address.saturating_add(at as u64),
-            &bytes[at..end],
-            origins[at],
-        )?;
-        at = end;
-    }
-    Ok(())
-}
+// The most bytes that are shown at a time.
+pub(crate) const LARGEST_EXTENT: usize = 1 << 20;
 
-pub(crate) fn print_bytes(
-    rt: &impl Print,
-    heap: Global,
-    name: &str,
-    plan: &Plan,
+// The bytes that are asked for: `length` of them from an address on.
+#[derive(Clone, Copy)]
+pub(crate) struct Extent {
     address: u64,
     length: usize,
-) -> Result<(), Failure> {
-    let mut bytes = vec![in heap; 0u8; length]?;
-    let mut origins = vec![in heap; None; length]?;
-    if let Err(fault) = plan.bytes(address, bytes.as_mut_slice()) {
-        print_refused(rt, name, &fault)?;
-        return Ok(());
-    }
-    if let Err(fault) = plan.origins(address, origins.as_mut_slice()) {
-        print_refused(rt, name, &fault)?;
-        return Ok(());
-    }
-    println!(rt; "{name}: bytes address={address:#x} length={length}")?;
-    print_lines(rt, address, bytes.as_slice(), origins.as_slice())?;
-    Ok(())
+    ghost few: { length ≤ 1048576 },
 }
 
-pub(crate) fn show_bytes(
-    rt: &HostRuntime,
-    name: &str,
-    bias: u64,
-    address: u64,
-    length: u64,
-) -> Result<(), Failure> {
-    if length > 1 << 20 {
-        return Err("bytes: at most 1048576 bytes at a time".into());
+impl Extent {
+    pub(crate) fn new(address: u64, length: u64) -> Result<Extent, Failure>
+        ensures { MatchResult result (λ e. (e.address ≡ address) × (e.length ≡ length)) (λ _. 1048576 < length) }
+    {
+        if length > LARGEST_EXTENT as u64 {
+            return Err(Failure::TooManyBytes);
+        }
+        Ok(Extent {
+            address,
+            length: length as usize,
+        })
     }
-    let Some(bytes) = read_file(rt, name)? else {
-        return Err("the file could not be read".into());
-    };
-    let opened = Opened::new(bytes.as_slice());
-    print_bytes(
-        rt,
-        rt.alloc(),
-        name,
-        &Plan::new(&opened, bias),
-        address,
-        length as usize,
-    )
+}
+
+impl<R: Print + AllocGlobal> Report<'_, R> {
+    pub(crate) fn bytes(&self, plan: &Plan, extent: Extent) -> Result<(), Failure> {
+        let Extent { address, length } = extent;
+        let alloc = self.rt.alloc();
+        let mut bytes = vec![in alloc; 0u8; length]?;
+        let mut origins = vec![in alloc; None; length]?;
+        let filled = plan
+            .bytes(address, bytes.as_mut_slice())
+            .and_then(|()| plan.origins(address, origins.as_mut_slice()));
+        if let Err(fault) = filled {
+            return Ok(self.refused(&fault)?);
+        }
+        let name = self.name;
+        println!(self.rt; "{name}: bytes address={address:#x} length={length}")?;
+        let lines = Lines {
+            address,
+            bytes: bytes.as_slice(),
+            origins: origins.as_slice(),
+        };
+        for line in lines {
+            self.rt.println(line)?;
+        }
+        Ok(())
+    }
+}
+
+impl Report<'_, HostRuntime> {
+    // Reads the file, and says what is planned for it.
+    pub(crate) fn read_and_plan(&self, bias: u64) -> Result<(), Failure> {
+        let bytes = self.read()?;
+        let opened = Opened::new(bytes.as_slice());
+        Ok(self.plan(&Plan::new(&opened, bias))?)
+    }
+
+    // Reads the file, and shows bytes of its plan.
+    pub(crate) fn read_and_show(&self, bias: u64, extent: Extent) -> Result<(), Failure> {
+        let bytes = self.read()?;
+        let opened = Opened::new(bytes.as_slice());
+        self.bytes(&Plan::new(&opened, bias), extent)
+    }
 }
