@@ -1,4 +1,5 @@
 pub mod Finds
+pub mod Lasts
 pub mod Orders
 pub mod Signs
 pub mod Powers

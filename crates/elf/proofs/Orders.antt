@@ -1,7 +1,7 @@
 -- The test of the order of segments. Assumes nothing.
 use Rattle.std.proofs.Common.{◌≡◌, ℕ, ◌+◌, ◌-◌, ◌/◌, ◌^◌, ◌<◌, ◌≤◌, min, false, List, Decides, leb, sym, refl, subst, arith, inl, inr}
 use Rattle.std.proofs.lemmas.Bool.{leb-true, le-leb, both_ways, cases_order}
-use Rattle.elf.specs.Searches.{Highest}
+use Rattle.elf.specs.Searches.{SomeBelow, Highest}
 use Rattle.elf.specs.Segments.{Load, header, BadOrder}
 use Rattle.elf.specs.declared.layout.Layout.{Layout}
 use Rattle.elf.specs.declared.records.ProgramHeader.{ProgramHeader}
@@ -12,8 +12,8 @@ page_same a b s small is = (λ le. omega arith, λ le. omega arith)
 
 module _ (l : Layout) (bytes : List ℕ) (i : ℕ) where
   -- Without a load header before it a segment is in order.
-  pub order_none : ((j : ℕ) → j < i → Load (header l bytes j) → ⊥) → Decides false (BadOrder l bytes i)
-  order_none absent = (λ t. absurd (both_ways false refl t), λ bad. absurd (absent bad.1.0 bad.1.1.within bad.1.1.fits))
+  pub order_none : (SomeBelow i (λ k. Load (header l bytes k)) → ⊥) → Decides false (BadOrder l bytes i)
+  order_none absent = (λ t. absurd (both_ways false refl t), λ bad. absurd (absent (bad.1.0, bad.1.1.within, bad.1.1.fits)))
 
   highest_one : (j k : ℕ) → Highest i (λ n. Load (header l bytes n)) j → Highest i (λ n. Load (header l bytes n)) k → j ≡ k
   highest_one j k a b =

@@ -2,7 +2,7 @@
 ghost use Rattle.std.specs.Prelude.{◌≡◌, ℕ, ◌+◌, ◌*◌, ◌<◌, ◌≤◌, Decides, MatchOption, Ok, Err};
 ghost use Rattle.faults.specs.Rules.{Checked, Tried};
 ghost use Rattle.faults.specs.declared.fault.Reason.TheVariants.{EntryPoint, Interpreter};
-ghost use Rattle.elf.specs.Searches.{FirstOf, Highest};
+ghost use Rattle.elf.specs.Searches.{SomeBelow, FirstOf, Highest};
 ghost use Rattle.faults.specs.declared.fault.Layer.TheVariants.{Open};
 ghost use Rattle.elf.specs.Kinds.{header_number};
 ghost use Rattle.elf.specs.Segments.{PowerOfTwo, Load, Interprets, BadSize, BadAlign, Misaligned, BadFlags, BadEnd, BadOrder, Executable, BadEntry, bad_load_count, segment_rules, once, on_each, offset_in, header, headers, phnum};
@@ -48,17 +48,12 @@ impl<'a> Headers<'a> {
         (0..self.count()).find(|i| self.is(*i, kind))
     }
 
-    // The last load header before the header `i`. A loop, since what `rfind` gives of a range is not found here.
+    // The last load header before the header `i`.
     fn load_before(&self, i: u32) -> Option<u32>
         requires { i < phnum self.now.layout self.now.bytes.now }
-        ensures { MatchOption result ((j : ℕ) → j < i → Load (header self.now.layout self.now.bytes.now j) → ⊥) (Highest i (λ k. Load (header self.now.layout self.now.bytes.now k))) }
+        ensures { MatchOption result (SomeBelow i (λ k. Load (header self.now.layout self.now.bytes.now k)) → ⊥) (Highest i (λ k. Load (header self.now.layout self.now.bytes.now k))) }
     {
-        for j in (0..i).rev() {
-            if self.is(j, HeaderType::Load) {
-                return Some(j);
-            }
-        }
-        None
+        (0..i).rev().find(|j| self.is(*j, HeaderType::Load))
     }
 
     // The refusal of a file for the header that a search has found.
