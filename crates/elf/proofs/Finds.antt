@@ -22,16 +22,8 @@ first_of_all : (a n : ℕ) (P : ℕ → Type 0) (r : Option ℕ) → a ≡ 0 →
 first_of_all a n P None e none = λ i within. none i (omega arith) within
 first_of_all a n P (Some i) e some = record { within = some.1; fits = some.2; lowest = λ j less. some.3 j (omega arith) less }
 
-or_of_all : (a n : ℕ) (P N : ℕ → Type 0) (r : Option ℕ) → a ≡ 0 → ((i : ℕ) → N i → P i → ⊥) → MatchOption r ((k : ℕ) → a ≤ k → k < n → N k) (λ i. (a ≤ i) × (i < n) × P i × ((k : ℕ) → a ≤ k → k < i → N k)) → MatchOption r ((i : ℕ) → i < n → N i) (Lowest n P)
-or_of_all a n P N None e apart none = λ i within. none i (omega arith) within
-or_of_all a n P N (Some i) e apart some = record { within = some.1; fits = some.2; lowest = λ j less. apart j (some.3 j (omega arith) less) }
-
 pub found_first : {F : Type 0} {g : Mut F (Bor ℕ × Unit {0}) Bool} (s u : Range ℕ) (f : F) (r : Option ℕ) (P : ℕ → Type 0) → s.start ≡ 0 → (xs : List ℕ) × (j : F) × YieldsThen nat_range_steps s xs r u × FoldsTo (λ p x q. CalledAt g p x false q) f xs j × MatchOption r ⊤ (λ x. (h : F) × CalledAt g j x true h) → ((x : ℕ) (q : F) → CalledAt g f x true q → P x) → ((x : ℕ) (q : F) → CalledAt g f x false q → (q ≡ f) × (P x → ⊥)) → FirstOf s.end P r
 found_first s u f r P zero ran fits misses = first_of_all s.start s.end P r zero (first_from_Range s u f r P (λ i. P i → ⊥) ran fits misses)
-
--- The same where a failed test says something else of a number, which rules the fact out.
-pub found_first_or : {F : Type 0} {g : Mut F (Bor ℕ × Unit {0}) Bool} (s u : Range ℕ) (f : F) (r : Option ℕ) (P N : ℕ → Type 0) → s.start ≡ 0 → (xs : List ℕ) × (j : F) × YieldsThen nat_range_steps s xs r u × FoldsTo (λ p x q. CalledAt g p x false q) f xs j × MatchOption r ⊤ (λ x. (h : F) × CalledAt g j x true h) → ((x : ℕ) (q : F) → CalledAt g f x true q → P x) → ((x : ℕ) (q : F) → CalledAt g f x false q → (q ≡ f) × N x) → ((i : ℕ) → N i → P i → ⊥) → MatchOption r ((i : ℕ) → i < s.end → N i) (Lowest s.end P)
-found_first_or s u f r P N zero ran fits misses apart = or_of_all s.start s.end P N r zero apart (first_from_Range s u f r P N ran fits misses)
 
 -- A check of a rule on a table, by what a search among its records finds.
 pub checked_first : (why : Reason) (t : Table) (P : ℕ → Type 0) (r : Option ℕ) (x : Result (Unit {0}) Fault) → FirstOf t.count P r → MatchOption r (x ≡ Ok tt) (λ i. x ≡ Err (record { reason = why; layer = Open; «record» = i; place = offset_in t i })) → Checked (on_each why t P) x

@@ -26,7 +26,7 @@ fn first_difference(file: &[u8], at: usize, expected: &[u8]) -> Option<usize>
     requires { at + length expected.now ≤ length file.now }
     ensures { MatchOption result ((i : ℕ) → i < length expected.now → slice_index file.now (at + i) ≡ slice_index expected.now i) (λ i. Lowest (length expected.now) (λ j. slice_index file.now (at + j) ≢ slice_index expected.now j) i) }
 {
-    (0..expected.len()).find(|i| file[at + *i] != expected[*i])
+    file[at..].iter().zip(expected).position(|(a, b)| a != b)
 }
 
 impl<'a> File<'a> {
