@@ -11,21 +11,10 @@ use Rattle.sv39.specs.declared.figures.Figures.{Figures}
 use Rattle.sv39.specs.Entries.{page_in, rights_in, leaf}
 use Rattle.sv39.specs.Tables.{first, count, origin, word, slot, place, frame_in, mapping_in, page_at, meant}
 use Rattle.sv39.specs.Writes.{Written}
-use Rattle.sv39.specs.Invariants.{Whole, Rooted, Middled, Fine, Filled}
+use Rattle.sv39.specs.Invariants.{Whole, Rooted, Middled, Fine, Kept}
 use Rattle.sv39.proofs.Numbers.{word_apart, word_zeroed}
 use Rattle.sv39.proofs.Pages.{page_outside, page_inside, mapping_zero, mapping_more}
 use Rattle.sv39.proofs.Worked.{encoded}
-
--- All that always holds.
-pub record Kept (g : Figures) (memory : List ℕ) (x : Pool) : Type 0 where
-  pub window : g.gigabyte ≤ 255
-  pub high : g.leaves ≤ 512
-  pub aligned : g.base % 4096 ≡ 0
-  pub whole : Whole g x.total (length memory)
-  pub rooted : Rooted g memory
-  pub middled : Middled g memory
-  pub filled : Filled g x.total memory
-  pub booked : Booked (first g) (count g) (page_at g memory) x
 
 -- What the leaf of a page with rights reads as.
 pub record Reads (page r e : ℕ) : Type 0 where

@@ -1,30 +1,32 @@
 -- What a set-up makes. Assumes nothing.
-use Rattle.std.proofs.Common.{◌≡◌, ℕ, zero, suc, ◌+◌, ◌-◌, ◌*◌, ◌/◌, ◌<◌, ◌≤◌, eqb, List, length, sym, refl, ap, ◌∙◌, ⊎_elim, arith}
+use Rattle.std.proofs.Common.{◌≡◌, ℕ, zero, suc, ◌+◌, ◌-◌, ◌*◌, ◌/◌, ◌%◌, ◌<◌, ◌≤◌, eqb, List, length, sym, refl, ap, ◌∙◌, subst, ⊎_elim, arith}
 use Rattle.std.proofs.lemmas.Bool.{cases_eq, eq-eqb, ne_eqb, cond-true, cond-false}
-use Rattle.space.specs.Frames.{Pool, Released}
+use Rattle.space.specs.Frames.{Pool, pool, Released}
 use Rattle.sv39.specs.declared.figures.Figures.{Figures}
-use Rattle.sv39.specs.Tables.{first, count, word, slot, mapping_in, page_at, meant, leaf_for, Tables}
+use Rattle.sv39.specs.Tables.{first, count, word, slot, mapping_in, page_at, leaf_for, Tables}
 use Rattle.sv39.specs.Writes.{Built}
-use Rattle.sv39.specs.Invariants.{Fine}
-use Rattle.sv39.specs.Setup.{LawfulFigures, Made}
+use Rattle.sv39.specs.Invariants.{Fine, Kept}
+use Rattle.sv39.specs.Setup.{LawfulFigures}
+use Rattle.sv39.specs.declared.paging.Sv39.{Sv39}
+use Rattle.sv39.specs.Spaces.{memory_of, Made}
 use Rattle.sv39.proofs.Pages.{page_inside}
-use Rattle.sv39.proofs.Keeps.{Kept, kept_empty, none_left}
+use Rattle.sv39.proofs.Keeps.{kept_empty, none_left}
 
 -- What is built of lawful figures is kept.
-pub kept_built : (base gigabyte leaves : ℕ) (m m' : List ℕ) (x y : Pool) → LawfulFigures (length m) base gigabyte leaves (length x.entries) → x.total ≡ length m / 4096 - (leaves + 2)
-    → Built (base / 4096) gigabyte leaves leaves m m' → Released x y → Kept (record { base = base; gigabyte = gigabyte; leaves = leaves }) m' y
-kept_built base gigabyte leaves m m' x y a total b released =
+pub kept_built : (g : Figures) (m m' : List ℕ) (x y : Pool) → LawfulFigures (length m) g (length x.entries) → x.total ≡ length m / 4096 - (g.leaves + 2) → Built g g.leaves m m' → Released x y → Kept g m' y
+kept_built g m m' x y a total b released =
     let whole = a.whole in
     let tables = a.tables in
     let long = b.apart.long in
-    kept_empty (record { base = base; gigabyte = gigabyte; leaves = leaves }) m' x y a.window.0 a.window.2 a.aligned (omega (arith, whole.1)) (omega (arith, a.room))
+    kept_empty g m' x y a.window.0 a.window.2 a.aligned (omega (arith, whole.1)) (omega (arith, a.room))
     (λ live. (omega (arith, whole.0), omega (arith, a.reach)))
     (λ i z. b.root i z.1) (λ i z. b.middle i z.1) b.slots released
 
 -- A space without pages and frames.
-pub kept_void : (m es : List ℕ) → Kept (record { base = 0; gigabyte = 0; leaves = 0 }) m (record { entries = es; total = 0; head = 0; spare = 0 })
-kept_void m es = kept_empty (record { base = 0; gigabyte = 0; leaves = 0 }) m (record { entries = es; total = 0; head = 0; spare = 0 }) (record { entries = es; total = 0; head = 0; spare = 0 })
-    (omega arith) (omega arith) refl (omega arith) (omega arith)
+pub kept_void : (g : Figures) (m es : List ℕ) → g.base ≡ 0 → g.gigabyte ≡ 0 → g.leaves ≡ 0 → Kept g m (record { entries = es; total = 0; head = 0; spare = 0 })
+kept_void g m es base gigabyte leaves =
+    kept_empty g m (record { entries = es; total = 0; head = 0; spare = 0 }) (record { entries = es; total = 0; head = 0; spare = 0 })
+    (omega arith) (omega arith) (ap (λ n. n % 4096) base) (omega arith) (omega arith)
     (λ live. absurd (omega arith)) (λ i z. absurd (omega (arith, z.0))) (λ i z. absurd (omega (arith, z.0))) (λ j h. absurd (omega arith))
     (record { long = refl; total = refl; head = refl; spare = refl; next = λ k l w. absurd (omega arith); rest = λ k l. refl })
 
@@ -56,11 +58,16 @@ tabled g m x k live t i lt li = ⊎_elim
     (cases_eq t 1))
     (cases_eq t 0)
 
-pub made : (base gigabyte leaves : ℕ) (m m' : List ℕ) (x y : Pool) → LawfulFigures (length m) base gigabyte leaves (length x.entries) → x.total ≡ length m / 4096 - (leaves + 2)
-    → Built (base / 4096) gigabyte leaves leaves m m' → Released x y
-    → Made (length m) base gigabyte leaves (record { base = base; gigabyte = gigabyte; leaves = leaves }) (meant (record { base = base; gigabyte = gigabyte; leaves = leaves }) y.total m') m'
-made base gigabyte leaves m m' x y a total b released = record {
-  figures = refl;
-  empty = record { first = refl; count = refl; frames = released.total ∙ total; page = none_left (record { base = base; gigabyte = gigabyte; leaves = leaves }) m' b.slots };
-  tables = tabled (record { base = base; gigabyte = gigabyte; leaves = leaves }) m' y (kept_built base gigabyte leaves m m' x y a total b released) (omega (arith, a.window.1));
+-- What is made of lawful figures.
+pub made : (g : Figures) (t : Sv39) (m : List ℕ) (x : Pool) → LawfulFigures (length m) g (length x.entries) → x.total ≡ length m / 4096 - (g.leaves + 2) → t.figures ≡ g → Built g g.leaves m (memory_of t) → Released x (pool t.frames)
+    → Made (length m) g t
+made g t m x a total is b released = record {
+  figures = is;
+  empty = record {
+    first = ap first is;
+    count = ap count is;
+    frames = released.total ∙ total;
+    page = λ q. ap (λ h. page_at h (memory_of t) q) is ∙ none_left g (memory_of t) b.slots q;
+  };
+  tables = tabled t.figures (memory_of t) (pool t.frames) t.kept (subst (λ h. 0 < h.leaves) (sym is) (omega (arith, a.window.1)));
 }

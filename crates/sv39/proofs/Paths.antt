@@ -13,9 +13,9 @@ use Rattle.sv39.specs.declared.entry.Walk.TheVariants.{Reached, Empty}
 use Rattle.sv39.specs.Entries.{Says, rights_in, pointer}
 use Rattle.sv39.specs.Walks.{le, index, Goes, Walks}
 use Rattle.sv39.specs.Tables.{first, count, bottom, origin, word, slot, frame_in, mapping_in, page_at, Found, Shows}
-use Rattle.sv39.specs.Invariants.{Fine}
+use Rattle.sv39.specs.Invariants.{Fine, Kept}
 use Rattle.sv39.proofs.Pages.{page_outside, page_inside}
-use Rattle.sv39.proofs.Keeps.{Kept, origin_fits}
+use Rattle.sv39.proofs.Keeps.{origin_fits}
 use Rattle.sv39.proofs.Worked.{encoded}
 
 -- One level of a walk, from a table in the memory with the entry e.
