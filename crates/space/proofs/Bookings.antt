@@ -1,22 +1,12 @@
 -- Pages and the bookkeeping of their frames change together. Assumes nothing.
-use Rattle.std.proofs.Common.{◌≡◌, ℕ, suc, ◌+◌, ◌-◌, ◌^◌, ◌<◌, ◌≤◌, true, eqb, length, get_or, set, Some, None, Option, sym, refl, ap, ◌∙◌, subst, inl, inr, ⊎_elim, arith, length-set, get_or-set_other, get_or-set_same}
-use Rattle.std.proofs.lemmas.Bool.{cases_eq, or_left, or_right, eq-eqb}
+use Rattle.std.proofs.Common.{◌≡◌, ℕ, suc, ◌+◌, ◌-◌, ◌^◌, ◌<◌, ◌≤◌, true, length, get_or, set, Some, None, Option, sym, refl, ap, ◌∙◌, subst, ⊎_elim, arith, length-set, get_or-set_other, get_or-set_same}
+use Rattle.std.proofs.lemmas.Bool.{cases_eq}
+use Rattle.std.proofs.lemmas.Bool.Decides.{nat_tests}
 use Rattle.space.specs.declared.parts.Mapping.{Mapping}
 use Rattle.space.specs.Meaning.{Meaning, Held, Lawful, one}
 use Rattle.space.specs.Frames.{Pool, mark, chained, frame_or, allowed, Booked, Released, IsUsed}
-use Rattle.space.proofs.Caches.{some_none}
 use Rattle.space.proofs.Chains.{chain_parts, chain_le, chain_pop, chain_push, chain_whole}
 use Rattle.space.proofs.Tallies.{tally_none, tally_same, tally_more}
-
--- Where no mapping is possible there is none.
-pub none_unless : {A : Type 0} (o : Option A) → ((x : A) → o ≡ Some x → ⊥) → o ≡ None
-none_unless None no_one = refl
-none_unless (Some x) no_one = absurd (no_one x refl)
-
--- A frame below the other number is one of a mapping.
-frame_some : (o : Option Mapping) (other f : ℕ) → frame_or other o ≡ f → f < other → (h : Mapping) × (o ≡ Some h) × (h.frame ≡ f)
-frame_some None other f e l = absurd (omega arith)
-frame_some (Some h) other f e l = (h, refl, e)
 
 -- What is known where frames are free.
 pub record Ready (x : Pool) : Type 0 where
@@ -38,17 +28,9 @@ module _ (first count : ℕ) (page : ℕ → Option Mapping) (x : Pool) (b : Boo
       let l = b.below p h e in
       (l, omega (arith, b.room), omega (arith, b.owned p h e, (b.inside p h e).1, b.window, b.few))
 
-  pub used_page : (f : ℕ) → IsUsed x f → (p : ℕ) × (h : Mapping) × (page p ≡ Some h) × (h.frame ≡ f)
-  used_page f u =
-      let s = frame_some (page (mark (get_or x.entries f 0))) x.total f (b.used f (u.0, u.2)) u.0 in
-      (mark (get_or x.entries f 0), s.0, s.1, s.2)
-
--- A frame is used exactly when a page has it.
+-- A frame that a page has is used.
 pub held_used : (first count : ℕ) (m : Meaning) (x : Pool) → Booked first count m.page x → (f : ℕ) → Held m f → IsUsed x f
 held_used first count m x b f (p, h, e, is) = subst (IsUsed x) is (page_used first count m.page x b p h e)
-
-pub used_held : (first count : ℕ) (m : Meaning) (x : Pool) → Booked first count m.page x → (f : ℕ) → IsUsed x f → Held m f
-used_held first count m x b f u = used_page first count m.page x b f u
 
 -- The first free frame is of no page.
 pub head_free : (first count : ℕ) (m : Meaning) (x : Pool) → Booked first count m.page x → 0 < x.spare → Held m x.head → ⊥
@@ -104,7 +86,7 @@ pub booked_give : (first count : ℕ) (page page' : ℕ → Option Mapping) (x :
     → Booked first count page' (record { entries = set x.entries h.frame x.head; total = x.total; head = h.frame; spare = x.spare + 1 })
 booked_give first count page page' x p h b was gone same =
     let u = page_used first count page x b p h was in
-    let other : (q : ℕ) → (k : Mapping) → page' q ≡ Some k → (q ≡ p → ⊥) = λ q k e d. some_none (sym e ∙ ap page' d ∙ gone) in
+    let other : (q : ℕ) → (k : Mapping) → page' q ≡ Some k → (q ≡ p → ⊥) = λ q k e d. let z = sym e ∙ ap page' d ∙ gone in cc in
     let back : (q : ℕ) (k : Mapping) → page' q ≡ Some k → page q ≡ Some k = λ q k e. sym (same q (other q k e)) ∙ e in
     record {
       window = b.window;
@@ -141,9 +123,9 @@ booked_none first count page x y window few room none r = record {
   window = window;
   few = omega (arith, r.total);
   room = omega (arith, r.total, r.long);
-  inside = λ q h e. absurd (some_none (sym e ∙ none q));
-  below = λ q h e. absurd (some_none (sym e ∙ none q));
-  owned = λ q h e. absurd (some_none (sym e ∙ none q));
+  inside = λ q h e. let z = sym e ∙ none q in cc;
+  below = λ q h e. let z = sym e ∙ none q in cc;
+  owned = λ q h e. let z = sym e ∙ none q in cc;
   used = λ f u.
       let l : f < x.total = omega (arith, u.0, r.total) in
       absurd (omega (arith, u.1, r.total, r.next f l (omega arith)));
@@ -170,7 +152,4 @@ booked_same first count page page' x b same = record {
 
 -- Lawful rights pass the test.
 pub lawful_allowed : (r : ℕ) → Lawful r → allowed r ≡ true
-lawful_allowed r (inl a) = or_left (eqb r 1) _ (eq-eqb r 1 a)
-lawful_allowed r (inr (inl a)) = or_right (eqb r 1) _ (or_left (eqb r 4) _ (eq-eqb r 4 a))
-lawful_allowed r (inr (inr (inl a))) = or_right (eqb r 1) _ (or_right (eqb r 4) _ (or_left (eqb r 5) _ (eq-eqb r 5 a)))
-lawful_allowed r (inr (inr (inr a))) = or_right (eqb r 1) _ (or_right (eqb r 4) _ (or_right (eqb r 5) _ (eq-eqb r 6 a)))
+lawful_allowed r lawful = grind (arith, nat_tests)

@@ -1,13 +1,12 @@
 -- What the calls on a space find, and what their steps come to. Assumes nothing.
-use Rattle.std.proofs.Common.{◌≡◌, true, false, is_some, ℕ, zero, suc, ◌+◌, ◌-◌, ◌%◌, ◌^◌, ◌<◌, ◌≤◌, List, length, set, Some, None, Ok, Option, Result, MatchOption, sym, refl, ap, ◌∙◌, subst, ⊎_elim, mod-eq_of_lt, arith}
+use Rattle.std.proofs.Common.{◌≡◌, true, false, is_some, ℕ, zero, suc, ◌+◌, ◌-◌, ◌%◌, ◌^◌, ◌<◌, ◌≤◌, List, length, set, Some, None, Ok, Option, Result, MatchOption, sym, refl, ap, ◌∙◌, subst, ⊎_elim, mod-eq_of_lt, rules, arith}
 use Rattle.faults.specs.declared.fault.Fault.{Fault}
 use Rattle.space.specs.declared.parts.Mapping.{Mapping}
 use Rattle.space.specs.Meaning.{Outside, IsMapped, Held, Lawful, mapped}
 use Rattle.space.specs.Memory.{Zeroed}
 use Rattle.space.specs.Frames.{Pool, pool, IsUsed, Takes, Gives, allowed_lawful}
 use Rattle.space.specs.Calls.{Mapped, Unmapped, Poked, Maps, Unmaps, Pokes}
-use Rattle.space.proofs.Bookings.{ready, held_used, used_held}
-use Rattle.space.proofs.Refusals.{map_clear, unmap_clear, byte_clear}
+use Rattle.space.proofs.Bookings.{ready, held_used}
 use Rattle.sv39.specs.declared.paging.Sv39.{Sv39}
 use Rattle.sv39.specs.Entries.{page_in, rights_in, leaf}
 use Rattle.sv39.specs.Tables.{first, count, origin, place, word, slot, frame_in, mapping_in, page_at, meant}
@@ -69,17 +68,7 @@ entry_some t (suc e) h s =
     let at : h ≡ record { frame = frame_in t.figures (suc e); rights = rights_in (suc e) } = cc in
     (omega arith, ap (λ (x : Mapping). x.frame) at)
 
--- A frame in use lies in the memory.
-pub lies : (t : Sv39) (f : ℕ) → IsUsed (pool t.frames) f → place t.figures f 0 + 4096 ≤ length (memory_of t)
-lies t f u =
-    let h = used_held (first t.figures) (count t.figures) (means t) (pool t.frames) t.kept.booked f u in
-    let s = seen t.figures (memory_of t) h.0 h.1 h.2 in
-    room_for t.figures _ (pool t.frames) t.kept f (omega (arith, s.low, s.high)) u.0
-
--- A frame is in use exactly when a page has it.
-pub held : (t : Sv39) (f : ℕ) → IsUsed (pool t.frames) f → Held (means t) f
-held t f u = used_held (first t.figures) (count t.figures) (means t) (pool t.frames) t.kept.booked f u
-
+-- A frame that a page has is in use.
 pub used : (t : Sv39) (f : ℕ) → Held (means t) f → IsUsed (pool t.frames) f
 used t f h = held_used (first t.figures) (count t.figures) (means t) (pool t.frames) t.kept.booked f h
 
@@ -89,10 +78,7 @@ head_lies t live some =
     let r = ready (first t.figures) (count t.figures) (page_at t.figures (memory_of t)) (pool t.frames) t.kept.booked some in
     (r.below, room_for t.figures _ (pool t.frames) t.kept t.frames.head live r.below)
 
--- Frames are free exactly where not all are in use.
-pub full : (t : Sv39) → t.frames.spare ≡ 0 → mapped (means t) ≡ t.frames.total
-full t none = let c = t.kept.booked.counted in omega arith
-
+-- Where frames are free, not all are in use.
 pub not_full : (t : Sv39) → 0 < t.frames.spare → mapped (means t) ≡ t.frames.total → ⊥
 not_full t some e = let c = t.kept.booked.counted in omega arith
 
@@ -120,7 +106,7 @@ map_step t p r k at e m₁ m₂ o y w none some lawful at_is e_is zeroed written
     let y_is = takes_some t p o y some takes in (
       subst (Kept t.figures m₂) (sym y_is) (kept_map t.figures _ (pool t.frames) t.kept p r low high gone some lawful m₁ m₂ z u),
       (
-        map_clear (means t) p r (inside t p k w) (λ m. let x : None ≡ Some m.0 = sym (page_is t p k w ∙ none) ∙ m.1 in cc) (not_full t some) lawful,
+        (let within : Outside (means t) p → ⊥ = inside t p k w in let unmapped : IsMapped (means t) p → ⊥ = mapped_none t p k None w (sym none) refl in let room = not_full t some in search rules),
         subst (λ (x : Pool). Mapped p r (means t) (meant t.figures x.total m₂)) (sym y_is) (does_map t.figures _ (pool t.frames) t.kept p r low high gone some lawful m₁ m₂ z u),
       ),
     )
@@ -141,7 +127,7 @@ unmap_step t p k h m₁ y w is written gives =
     let y_is = gives.given (omega (arith, s.1, n.1, t.kept.booked.room)) (omega (arith, t.kept.booked.counted, t.kept.booked.few)) ∙ ap (given (pool t.frames)) frame in (
       subst (Kept t.figures m₁) (sym y_is) (kept_unmap t.figures _ (pool t.frames) t.kept p low high there m₁ u),
       (
-        unmap_clear (means t) p (inside t p k w) (h, page_is t p k w ∙ is),
+        (let within : Outside (means t) p → ⊥ = inside t p k w in let mapped_p : IsMapped (means t) p = (h, page_is t p k w ∙ is) in search rules),
         subst (λ (x : Pool). Unmapped p (means t) (meant t.figures x.total m₁)) (sym y_is) (does_unmap t.figures _ (pool t.frames) t.kept p low high there m₁ u),
       ),
     )
@@ -153,7 +139,7 @@ poke_step t f i at b m byte is =
     let e = sym (is ∙ ap (λ n. set (memory_of t) n b) byte.place) in (
       subst (λ l. Kept t.figures l (pool t.frames)) e (kept_poke t.figures _ (pool t.frames) t.kept f i b byte.small within),
       (
-        byte_clear (means t) f i byte.held byte.small,
+        (let held = byte.held in let small = byte.small in search rules),
         subst (λ l. Poked f i b (means t) (meant t.figures t.frames.total l)) e (does_poke t.figures _ (pool t.frames) t.kept f i b byte.small within),
       ),
     )

@@ -38,7 +38,7 @@ written {k} {v} {xs} {ys} apart bytes fits =
 -- An entry that a write does not meet stays.
 pub word_apart : {at n : ℕ} {xs ys : List ℕ} → Apart at n xs ys → (k : ℕ) → (8 * k + 8 ≤ at) ⊎ (at + n ≤ 8 * k) → word ys k ≡ word xs k
 word_apart {at} {n} {xs} {ys} z k o = le_same xs ys (8 * k) (8 * k) 8 (λ i h.
-    z.rest (8 * k + i) (⊎_elim (λ (l : 8 * k + 8 ≤ at). inl (omega arith)) (λ (l : at + n ≤ 8 * k). inr (omega arith)) o))
+    z.rest (8 * k + i) (grind arith))
 
 pub word_zeroed : {at n : ℕ} {xs ys : List ℕ} → Zeroed at n xs ys → (k : ℕ) → at ≤ 8 * k → 8 * k + 8 ≤ at + n → word ys k ≡ 0
 word_zeroed {at} {n} {xs} {ys} z k low high = le_zero ys (8 * k) 8 (λ i h.

@@ -6,18 +6,15 @@ use Rattle.sv39.specs.Examples.{Encoded, Examples}
 
 -- A valid readable leaf is well formed.
 well_leaf : (e : ℕ) → bit 0 e ≡ 1 → bit 1 e ≡ 1 → e < 2 ^ 54 → Malformed e → ⊥
-well_leaf e v r s = ⊎_elim (λ (b : bit 0 e ≡ 0). omega arith) (⊎_elim (λ (b : (bit 1 e ≡ 0) × (bit 2 e ≡ 1)). omega (arith, b.0))
-    (⊎_elim (λ (b : 2 ^ 54 ≤ e). omega arith) (λ (b : Pointing e × (0 < bit 4 e + bit 6 e + bit 7 e)). omega (arith, b.0))))
+well_leaf e v r s bad = grind arith
 
 -- A valid pointer without U, A and D is well formed.
 well_pointer : (e : ℕ) → bit 0 e ≡ 1 → bit 2 e ≡ 0 → e < 2 ^ 54 → bit 4 e + bit 6 e + bit 7 e ≡ 0 → Malformed e → ⊥
-well_pointer e v w s u = ⊎_elim (λ (b : bit 0 e ≡ 0). omega arith) (⊎_elim (λ (b : (bit 1 e ≡ 0) × (bit 2 e ≡ 1)). omega (arith, b.1))
-    (⊎_elim (λ (b : 2 ^ 54 ≤ e). omega arith) (λ (b : Pointing e × (0 < bit 4 e + bit 6 e + bit 7 e)). omega (arith, b.1))))
+well_pointer e v w s u bad = grind arith
 
 -- A valid leaf to execute only is well formed.
 well_execute : (e : ℕ) → bit 0 e ≡ 1 → bit 2 e ≡ 0 → bit 3 e ≡ 1 → e < 2 ^ 54 → Malformed e → ⊥
-well_execute e v w x s = ⊎_elim (λ (b : bit 0 e ≡ 0). omega arith) (⊎_elim (λ (b : (bit 1 e ≡ 0) × (bit 2 e ≡ 1)). omega (arith, b.1))
-    (⊎_elim (λ (b : 2 ^ 54 ≤ e). omega arith) (λ (b : Pointing e × (0 < bit 4 e + bit 6 e + bit 7 e)). omega (arith, b.0))))
+well_execute e v w x s bad = grind arith
 
 pointer_says : (l page : ℕ) → page < 2 ^ 44 → Says l (pointer page) (Table page)
 unfolding pointer
