@@ -1,6 +1,6 @@
 -- What a set-up makes. Assumes nothing.
-use Rattle.std.proofs.Common.{◌≡◌, ℕ, zero, suc, ◌+◌, ◌-◌, ◌*◌, ◌/◌, ◌%◌, ◌<◌, ◌≤◌, eqb, List, length, sym, refl, ap, ◌∙◌, subst, ⊎_elim, arith}
-use Rattle.std.proofs.lemmas.Bool.{cases_eq, eq-eqb, ne_eqb, cond-true, cond-false}
+use Rattle.std.proofs.Common.{◌≡◌, ℕ, zero, suc, ◌+◌, ◌-◌, ◌*◌, ◌/◌, ◌%◌, ◌<◌, ◌≤◌, cond, ◌==◌, List, length, sym, refl, ap, ◌∙◌, subst, ⊎_elim, arith}
+use Rattle.std.proofs.lemmas.Bool.Decides.{nat_tests}
 use Rattle.space.specs.Frames.{Pool, pool, Released}
 use Rattle.sv39.specs.declared.figures.Figures.{Figures}
 use Rattle.sv39.specs.Tables.{first, count, word, slot, mapping_in, page_at, leaf_for, Tables}
@@ -35,28 +35,22 @@ leaf_is : (g : Figures) (total e : ℕ) → (0 < e → Fine g total e) → e ≡
 leaf_is g total zero fine = refl
 leaf_is g total (suc e) fine = (fine (omega arith)).0
 
+-- Behind tables 0 and 1.
+third : (t a b c : ℕ) → 2 ≤ t → cond (t == 0) a (cond (t == 1) b c) ≡ c
+third t a b c h = grind (arith, nat_tests)
+
 -- Every entry of every table.
 pub tabled : (g : Figures) (m : List ℕ) (x : Pool) → Kept g m x → 0 < g.leaves → Tables g m (page_at g m)
-tabled g m x k live t i lt li = ⊎_elim
-    (λ (e : t ≡ 0).
-    ap (λ n. word m (512 * n + i)) e ∙ ap (word m) (let d : 512 * 0 + i ≡ i = omega arith in d) ∙ k.rooted i (live, li)
-    ∙ sym (cond-true (eqb t 0) _ _ (eq-eqb t 0 e)))
-    (λ (ne : t ≡ 0 → ⊥). ⊎_elim
-    (λ (e : t ≡ 1).
-    ap (λ n. word m (512 * n + i)) e ∙ k.middled i (live, li)
-    ∙ sym (cond-false (eqb t 0) _ _ (ne_eqb t 0 ne) ∙ cond-true (eqb t 1) _ _ (eq-eqb t 1 e)))
-    (λ (no : t ≡ 1 → ⊥).
-    let two : 2 ≤ t = omega arith in
-    let j = 512 * (t - 2) + i in
-    let below : 512 * (t - 2) + i < count g = omega arith in
-    let at : 512 * t + i ≡ 1024 + (512 * (t - 2) + i) = omega arith in
-    let back : first g + (512 * (t - 2) + i) - first g ≡ 512 * (t - 2) + i = omega arith in
-    let page : page_at g m (first g + (512 * (t - 2) + i)) ≡ mapping_in g (slot m (512 * (t - 2) + i)) =
-    page_inside g m (first g + (512 * (t - 2) + i)) (omega arith) (omega arith) ∙ ap (λ n. mapping_in g (slot m n)) back in
-    ap (word m) at ∙ leaf_is g x.total (slot m (512 * (t - 2) + i)) (λ s. k.filled (512 * (t - 2) + i) (below, s)) ∙ ap (leaf_for g) (sym page)
-    ∙ sym (cond-false (eqb t 0) _ _ (ne_eqb t 0 ne) ∙ cond-false (eqb t 1) _ _ (ne_eqb t 1 no)))
-    (cases_eq t 1))
-    (cases_eq t 0)
+tabled g m x k live zero i lt li = let r = k.rooted i (live, li) in grind (arith, nat_tests)
+tabled g m x k live (suc zero) i lt li = let r = k.middled i (live, li) in grind (arith, nat_tests)
+tabled g m x k live (suc (suc l)) i lt li =
+    let at : 512 * suc (suc l) + i ≡ 1024 + (512 * l + i) = omega arith in
+    let back : first g + (512 * l + i) - first g ≡ 512 * l + i = omega arith in
+    let page : page_at g m (first g + (512 * l + i)) ≡ mapping_in g (slot m (512 * l + i)) =
+    page_inside g m (first g + (512 * l + i)) (omega arith) (omega arith) ∙ ap (λ n. mapping_in g (slot m n)) back in
+    ap (word m) at ∙ leaf_is g x.total (slot m (512 * l + i)) (λ s. k.filled (512 * l + i) (omega arith, s)) ∙ ap (leaf_for g) (sym page)
+    ∙ ap (λ n. leaf_for g (page_at g m (first g + (512 * n + i)))) (let d : l ≡ suc (suc l) - 2 = omega arith in d)
+    ∙ sym (third (suc (suc l)) _ _ _ (omega arith))
 
 -- What is made of lawful figures.
 pub made : (g : Figures) (t : Sv39) (m : List ℕ) (x : Pool) → LawfulFigures (length m) g (length x.entries) → x.total ≡ length m / 4096 - (g.leaves + 2) → t.figures ≡ g → Built g g.leaves m (memory_of t) → Released x (pool t.frames)
