@@ -1,5 +1,5 @@
 -- What stays true of a TLB's entries. Assumes nothing.
-use Rattle.std.proofs.Common.{◌≡◌, ℕ, zero, suc, ◌%◌, List, [], ◌∷◌, get_or, set, Some, None, Ok, Err, Option, Result, sym, ap, ◌∙◌, arith, lit<, get_or-set_other}
+use Rattle.std.proofs.Common.{◌≡◌, ℕ, ◌%◌, List, get_or, set, Some, None, Ok, Err, Option, Result, sym, ap, ◌∙◌, arith, lit<, get_or-set_other}
 use Rattle.std.proofs.lemmas.Grind.{common_steps}
 use Rattle.faults.specs.declared.fault.Fault.{Fault}
 use Rattle.space.specs.declared.tlb.Entry.{Entry}

@@ -1,5 +1,5 @@
 -- What writes leave of memory. Assumes nothing.
-use Rattle.std.proofs.Common.{◌≡◌, ℕ, ◌-◌, List, set, ◌∙◌, arith, length-set}
+use Rattle.std.proofs.Common.{ℕ, ◌-◌, List, set, ◌∙◌, arith, length-set}
 use Rattle.std.proofs.lemmas.Grind.{common_steps}
 use Rattle.space.specs.Memory.{Bytes, Apart, Zeroed}
 

@@ -11,7 +11,7 @@ use Rattle.sv39.specs.declared.paging.Sv39.{Sv39}
 use Rattle.sv39.specs.Entries.{page_in, rights_in, leaf}
 use Rattle.sv39.specs.Tables.{first, count, origin, place, word, slot, frame_in, mapping_in, page_at, meant}
 use Rattle.sv39.specs.Writes.{Written}
-use Rattle.sv39.specs.Invariants.{Fine, Kept, seen}
+use Rattle.sv39.specs.Invariants.{Fine, Kept}
 use Rattle.sv39.specs.Spaces.{memory_of, means, InWindow, IsByte}
 use Rattle.sv39.proofs.Pages.{page_inside}
 use Rattle.sv39.proofs.Keeps.{Reads, reads, origin_fits, room_for, kept_map, does_map, kept_unmap, does_unmap, kept_poke, does_poke, taken, given}

@@ -14,7 +14,7 @@ use Rattle.sv39.specs.Tables.{first, count, origin, word, slot, place, frame_in,
 use Rattle.sv39.specs.Writes.{Written}
 use Rattle.sv39.specs.Invariants.{Whole, Rooted, Middled, Fine, Kept}
 use Rattle.sv39.proofs.Numbers.{word_apart, word_zeroed}
-use Rattle.sv39.proofs.Pages.{page_outside, page_inside, mapping_zero, mapping_more}
+use Rattle.sv39.proofs.Pages.{page_inside, mapping_zero, mapping_more}
 use Rattle.sv39.proofs.Worked.{encoded}
 
 -- What the leaf of a page with rights reads as.

@@ -1,5 +1,5 @@
 -- Numbers stored in bytes, and what writes leave of them. Assumes nothing.
-use Rattle.std.proofs.Common.{◌≡◌, ℕ, zero, suc, ◌+◌, ◌-◌, ◌*◌, ◌^◌, ◌<◌, ◌≤◌, ◌⊎◌, List, get_or, take, drop, get_or-take, get_or-drop, refl, ap, ◌∙◌, inl, inr, ⊎_elim, zero-mul, arith, lit<}
+use Rattle.std.proofs.Common.{◌≡◌, ℕ, zero, suc, ◌+◌, ◌-◌, ◌*◌, ◌^◌, ◌<◌, ◌≤◌, ◌⊎◌, List, get_or, take, drop, get_or-take, get_or-drop, refl, ap, ◌∙◌, zero-mul, arith, lit<}
 use Rattle.std.specs.Int.{w64, from_le_bytes, to_le_bytes}
 use Rattle.std.proofs.lemmas.Nat.{from_le_bytes-to_le_bytes_8}
 use Rattle.space.specs.Memory.{Apart, Zeroed}

@@ -1,7 +1,7 @@
 -- Entries that are made, and the worked examples. Assumes nothing.
-use Rattle.std.proofs.Common.{◌≡◌, ℕ, ◌+◌, ◌*◌, ◌/◌, ◌^◌, ◌<◌, ◌≤◌, sym, refl, subst, inl, inr, ⊎_elim, arith, lit<}
+use Rattle.std.proofs.Common.{◌≡◌, ℕ, ◌+◌, ◌*◌, ◌/◌, ◌^◌, ◌<◌, sym, refl, subst, inl, inr, ⊎_elim, arith, lit<}
 use Rattle.sv39.specs.declared.entry.Entry.TheVariants.{Table, Leaf}
-use Rattle.sv39.specs.Entries.{bit, Malformed, Pointing, Says, pointer, leaf}
+use Rattle.sv39.specs.Entries.{bit, Malformed, Says, pointer, leaf}
 use Rattle.sv39.specs.Examples.{Encoded, Examples}
 
 -- A valid readable leaf is well formed.
