@@ -4,6 +4,7 @@
 ghost use Rattle.std.specs.Prelude.{Decides};
 ghost use Rattle.space.specs.Frames.{pool, Released, Takes, Gives, IsUsed};
 
+// The number of frames stands beside the entries: the lent buffer may be longer, and a space of refused figures keeps it whole.
 #[derive(Drop)]
 pub struct Frames<'a> {
     pub entries: &'a mut [u32],

@@ -2,7 +2,7 @@
 ghost use Rattle.std.specs.Prelude.{◌≡◌, ◌%◌, ◌^◌, ◌<◌, Decides};
 ghost use Rattle.sv39.specs.Entries.{bit, Malformed, Pointing, page_in, rights_in, pointer, leaf};
 
-// The bits of an entry: V, R, W, X, U, A and D. The physical page stands in bits 10 to 53.
+// The bits V, R, W, X, U, A and D of an entry, and the first of the 44 bits of the physical page.
 const VALID: u32 = 0;
 
 const READ: u32 = 1;
@@ -16,6 +16,8 @@ const USER: u32 = 4;
 const ACCESSED: u32 = 6;
 
 const DIRTY: u32 = 7;
+
+const PAGE: u32 = 10;
 
 // How many physical pages there are.
 const PAGES: u64 = 1 << 44;
@@ -63,7 +65,7 @@ fn bit(number: u64, n: u32) -> u64
 pub fn page_in(entry: u64) -> u64
     ensures { result ≡ page_in entry }
 {
-    (entry >> 10) % PAGES
+    (entry >> PAGE) % PAGES
 }
 
 // The rights in an entry.
@@ -96,7 +98,7 @@ pub fn is_malformed(entry: u64) -> bool
 pub fn pointer_to(page: u64) -> u64
     ensures { result ≡ pointer (page % 2 ^ 44) }
 {
-    page % PAGES * 1024 + (1 << VALID)
+    (page % PAGES << PAGE) + (1 << VALID)
 }
 
 // The leaf of a physical page, which has 44 bits: U and A set, R, W and X as the rights say, D with W.
@@ -109,5 +111,5 @@ pub fn leaf_of(page: u64, rights: u8) -> u64
     let write = bit(rights, 1) * ((1 << WRITE) + (1 << DIRTY));
     let execute = bit(rights, 0) << EXECUTE;
     let always = (1 << VALID) + (1 << USER) + (1 << ACCESSED);
-    page % PAGES * 1024 + (always + read + write + execute)
+    (page % PAGES << PAGE) + (always + read + write + execute)
 }

@@ -27,6 +27,13 @@ impl<'a> Sv39<'a> {
         262144 * self.figures.gigabyte
     }
 
+    // The number of pages in the window.
+    fn count(&self) -> u32
+        ensures { result ≡ count self.now.figures }
+    {
+        512 * self.figures.leaves
+    }
+
     // The physical page of data frame 0.
     fn origin(&self) -> u64
         ensures { result ≡ origin self.now.figures }
@@ -39,7 +46,7 @@ impl<'a> Sv39<'a> {
         ensures { MatchOption result (Outside (means self.now) page) (λ k. InWindow self.now page k) }
     {
         let j = page.checked_sub(self.first())?;
-        (j < 512 * self.figures.leaves).then_some(1024 + j as usize)
+        (j < self.count()).then_some(1024 + j as usize)
     }
 
     // What an entry of the leaf tables says.
@@ -84,7 +91,7 @@ impl<'a> Space for Sv39<'a> {
     fn bounds(&self) -> Bounds {
         Bounds {
             first: self.first(),
-            count: 512 * self.figures.leaves,
+            count: self.count(),
             frames: self.frames.total,
         }
     }
