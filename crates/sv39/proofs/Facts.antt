@@ -1,6 +1,5 @@
 -- What the calls on a space find, and what their steps come to. Assumes nothing.
-use Rattle.std.proofs.Common.{◌≡◌, true, false, is_some, ℕ, zero, suc, ◌+◌, ◌-◌, ◌%◌, ◌^◌, ◌<◌, ◌≤◌, List, length, set, Some, None, Ok, Option, Result, MatchOption, sym, refl, ap, ◌∙◌, subst, ⊎_elim, mod-eq_of_lt, rules, arith}
-use Rattle.faults.specs.declared.fault.Fault.{Fault}
+use Rattle.std.proofs.Common.{◌≡◌, true, false, is_some, ℕ, zero, suc, ◌+◌, ◌-◌, ◌%◌, ◌^◌, ◌<◌, ◌≤◌, List, length, set, Some, None, Ok, Option, sym, refl, ap, ◌∙◌, subst, ⊎_elim, mod-eq_of_lt, rules, arith}
 use Rattle.space.specs.declared.parts.Mapping.{Mapping}
 use Rattle.space.specs.Meaning.{Outside, IsMapped, Held, Lawful, mapped}
 use Rattle.space.specs.Memory.{Zeroed}
@@ -16,11 +15,7 @@ use Rattle.sv39.specs.Spaces.{memory_of, means, InWindow, IsByte}
 use Rattle.sv39.proofs.Pages.{page_inside}
 use Rattle.sv39.proofs.Keeps.{Reads, reads, origin_fits, room_for, kept_map, does_map, kept_unmap, does_unmap, kept_poke, does_poke, taken, given}
 
--- What an option held where it was answered as a value.
-pub held_some : {A : Type 0} (o : Option A) (a : A) → MatchOption o ⊥ (λ x. ◌≡◌ {A = Result A Fault} (Ok a) (Ok x)) → o ≡ Some a
-held_some None a c = absurd c
-held_some (Some x) a c = cc
-
+-- An option that is none.
 pub held_none : {A : Type 0} (o : Option A) → is_some o ≡ false → o ≡ None
 held_none None e = refl
 held_none (Some x) e = cc
@@ -90,17 +85,18 @@ takes_some t p None y some (none, same) =
 takes_some t p (Some f) y some d = d.3
 
 -- The steps of a mapping: the first free frame is wiped, the page's entry is written, the frame is taken.
-pub map_step : (t : Sv39) (p r k at e : ℕ) (m₁ m₂ : List ℕ) (o : Option ℕ) (y : Pool) → InWindow t p k → mapping_in t.figures (word (memory_of t) k) ≡ None → 0 < t.frames.spare → Lawful r
-    → at ≡ place t.figures t.frames.head 0 → e ≡ leaf ((origin t.figures + t.frames.head) % 2 ^ 44) r → Zeroed at 4096 (memory_of t) m₁ → Written k e m₁ m₂ → Takes p o (pool t.frames) y
+pub map_step : (t : Sv39) (p r k at n e : ℕ) (m₁ m₂ : List ℕ) (was : Option Mapping) (o : Option ℕ) (y : Pool) → InWindow t p k → was ≡ mapping_in t.figures (word (memory_of t) k) → false ≡ is_some was → 0 < t.frames.spare → Lawful r
+    → at ≡ place t.figures t.frames.head 0 → n ≡ origin t.figures + t.frames.head → e ≡ leaf (n % 2 ^ 44) r → Zeroed at 4096 (memory_of t) m₁ → Written k e m₁ m₂ → Takes p o (pool t.frames) y
     → Kept t.figures m₂ y × Maps p r (Ok tt) (means t) (meant t.figures y.total m₂)
-map_step t p r k at e m₁ m₂ o y w none some lawful at_is e_is zeroed written takes =
+map_step t p r k at n e m₁ m₂ was o y w was_is free some lawful at_is n_is e_is zeroed written takes =
+    let none = sym was_is ∙ held_none was (sym free) in
     let low = w.low in
     let high = w.high in
     let live : 0 < t.figures.leaves = omega arith in
     let gone : slot (memory_of t) (p - first t.figures) ≡ 0 = ap (word (memory_of t)) (sym w.number) ∙ entry_zero t _ none in
     let z : Zeroed (place t.figures t.frames.head 0) 4096 (memory_of t) m₁ = subst (λ n. Zeroed n 4096 (memory_of t) m₁) at_is zeroed in
     let fits = origin_fits t.figures _ (pool t.frames) t.kept live in
-    let fine = e_is ∙ ap (λ n. leaf n r) (mod-eq_of_lt (omega (arith, (head_lies t live some).0))) in
+    let fine = e_is ∙ ap (λ i. leaf (i % 2 ^ 44) r) n_is ∙ ap (λ i. leaf i r) (mod-eq_of_lt (omega (arith, (head_lies t live some).0))) in
     let u : Written (1024 + (p - first t.figures)) (leaf (origin t.figures + t.frames.head) r) m₁ m₂ =
     subst (λ n. Written n (leaf (origin t.figures + t.frames.head) r) m₁ m₂) w.number (subst (λ n. Written k n m₁ m₂) fine written) in
     let y_is = takes_some t p o y some takes in (

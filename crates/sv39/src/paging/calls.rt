@@ -1,8 +1,10 @@
 // The calls on a space in Sv39 tables.
-ghost use Rattle.std.specs.Prelude.{◌≡◌, ◌+◌, ◌*◌, ◌<◌, ◌≤◌, MatchOption, OnErr};
+ghost use Rattle.std.specs.Prelude.{◌≡◌, ◌+◌, ◌*◌, ◌<◌, ◌≤◌, MatchResult, OnErr};
 ghost use Rattle.faults.specs.declared.fault.Layer.TheVariants.{Space as SpaceLayer};
-ghost use Rattle.space.specs.Meaning.{Outside, Held};
-ghost use Rattle.space.specs.Calls.{Step, Looks, Maps, Unmaps, Pokes};
+ghost use Rattle.faults.specs.declared.fault.Reason.TheVariants.{OutsideWindow};
+ghost use Rattle.faults.specs.Rules.{single, Hit, Answers};
+ghost use Rattle.space.specs.Meaning.{Outside};
+ghost use Rattle.space.specs.Calls.{Step, byte_rules, Looks, Maps, Unmaps, Pokes};
 ghost use Rattle.sv39.specs.Tables.{first, count, origin, place, word, mapping_in};
 ghost use Rattle.sv39.specs.Spaces.{always, memory_of, means, means_sound, InWindow, IsByte};
 
@@ -41,12 +43,15 @@ impl<'a> Sv39<'a> {
         self.figures.base / 4096 + u64::from(self.figures.leaves) + 2
     }
 
-    // The number of a page's entry in the tables, where the page lies in the window.
-    fn slot(&self, page: u32) -> Option<usize>
-        ensures { MatchOption result (Outside (means self.now) page) (λ k. InWindow self.now page k) }
+    // The number of a page's entry in the tables; refused where the page lies outside the window.
+    fn slot(&self, page: u32) -> Result<usize, Fault>
+        ensures { MatchResult result (λ k. InWindow self.now page k) (λ f. Hit (single OutsideWindow SpaceLayer 0 (page * 4096) (Outside (means self.now) page)) f) }
     {
-        let j = page.checked_sub(self.first())?;
-        (j < self.count()).then_some(1024 + j as usize)
+        let first = self.first();
+        if page < first || page - first >= self.count() {
+            return Err(page_refusal(Reason::OutsideWindow, page));
+        }
+        Ok(1024 + (page - first) as usize)
     }
 
     // What an entry of the leaf tables says.
@@ -72,14 +77,14 @@ impl<'a> Sv39<'a> {
         (self.figures.leaves as usize + 2 + frame as usize) * 4096
     }
 
-    // Where a byte of a frame lies in the memory, if a page has the frame and the index lies in it.
-    fn place(&self, frame: u32, index: u32) -> Option<usize>
-        ensures { MatchOption result (Held (means self.now) frame × (index < 4096) → ⊥) (λ at. IsByte self.now frame index at) }
+    // Where a byte of a frame lies in the memory; refused where no page has the frame, or the index is past the page.
+    fn place(&self, frame: u32, index: u32) -> Result<usize, Fault>
+        ensures { Answers (byte_rules (means self.now) frame index) (λ at. IsByte self.now frame index at) result }
     {
         if index >= 4096 || !self.frames.is_used(frame) {
-            return None;
+            return Err(refusal(Reason::FrameUnused, u64::from(frame)));
         }
-        Some(self.start(frame) + index as usize)
+        Ok(self.start(frame) + index as usize)
     }
 }
 
@@ -109,7 +114,7 @@ impl<'a> Space for Sv39<'a> {
         ensures step { Step always means self.old self.new (Looks page result) }
         ensures memory { memory_of self.new ≡ memory_of self.old }
     {
-        self.mapping(self.slot(page)?)
+        self.mapping(self.slot(page).ok()?)
     }
 
     // A refusal leaves the memory as it was.
@@ -117,9 +122,7 @@ impl<'a> Space for Sv39<'a> {
         ensures step { Step always means self.old self.new (Maps page rights result) }
         ensures refused { OnErr result (memory_of self.new ≡ memory_of self.old) }
     {
-        let slot = self
-            .slot(page)
-            .ok_or_else(|| page_refusal(Reason::OutsideWindow, page))?;
+        let slot = self.slot(page)?;
         if self.mapping(slot).is_some() {
             return Err(page_refusal(Reason::PageMapped, page));
         }
@@ -143,9 +146,7 @@ impl<'a> Space for Sv39<'a> {
         ensures step { Step always means self.old self.new (Unmaps page result) }
         ensures refused { OnErr result (memory_of self.new ≡ memory_of self.old) }
     {
-        let slot = self
-            .slot(page)
-            .ok_or_else(|| page_refusal(Reason::OutsideWindow, page))?;
+        let slot = self.slot(page)?;
         let Some(mapping) = self.mapping(slot) else {
             return Err(page_refusal(Reason::PageUnmapped, page));
         };
@@ -155,9 +156,7 @@ impl<'a> Space for Sv39<'a> {
     }
 
     fn peek(&self, frame: u32, index: u32) -> Result<u8, Fault> {
-        let at = self
-            .place(frame, index)
-            .ok_or_else(|| refusal(Reason::FrameUnused, u64::from(frame)))?;
+        let at = self.place(frame, index)?;
         Ok(self.tables.memory[at])
     }
 
@@ -166,9 +165,7 @@ impl<'a> Space for Sv39<'a> {
         ensures step { Step always means self.old self.new (Pokes frame index byte result) }
         ensures refused { OnErr result (memory_of self.new ≡ memory_of self.old) }
     {
-        let at = self
-            .place(frame, index)
-            .ok_or_else(|| refusal(Reason::FrameUnused, u64::from(frame)))?;
+        let at = self.place(frame, index)?;
         self.tables.put(at, byte);
         Ok(())
     }
