@@ -49,7 +49,7 @@ impl<'a> Tables<'a> {
         requires reach { bottom figures + 2 + figures.leaves ≤ 2 ^ 44 }
         ensures { Built figures figures.leaves self.old.memory.now self.new.memory.now }
     {
-        let page = figures.base / 4096;
+        let page = figures.bottom();
         self.zero(0, (figures.leaves as usize + 2) * 4096);
         self.set_entry(figures.gigabyte as usize, pointer_to(page + 1));
         for i in 0..figures.leaves {

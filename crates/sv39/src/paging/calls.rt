@@ -5,7 +5,7 @@ ghost use Rattle.faults.specs.declared.fault.Reason.TheVariants.{OutsideWindow};
 ghost use Rattle.faults.specs.Rules.{single, Hit, Answers};
 ghost use Rattle.space.specs.Meaning.{Outside};
 ghost use Rattle.space.specs.Calls.{Step, byte_rules, Looks, Maps, Unmaps, Pokes};
-ghost use Rattle.sv39.specs.Tables.{first, count, origin, place, word, mapping_in};
+ghost use Rattle.sv39.specs.Tables.{count, word, mapping_in};
 ghost use Rattle.sv39.specs.Spaces.{always, memory_of, means, means_sound, InWindow, IsByte};
 
 use crate::entry::{leaf_of, page_in, rights_in};
@@ -22,36 +22,14 @@ fn page_refusal(reason: Reason, page: u32) -> Fault
 }
 
 impl<'a> Sv39<'a> {
-    // The first page of the window.
-    fn first(&self) -> u32
-        ensures { result ≡ first self.now.figures }
-    {
-        262144 * self.figures.gigabyte
-    }
-
-    // The number of pages in the window.
-    fn count(&self) -> u32
-        ensures { result ≡ count self.now.figures }
-    {
-        512 * self.figures.leaves
-    }
-
-    // The physical page of data frame 0.
-    fn origin(&self) -> u64
-        ensures { result ≡ origin self.now.figures }
-    {
-        self.figures.base / 4096 + u64::from(self.figures.leaves) + 2
-    }
-
     // The number of a page's entry in the tables; refused where the page lies outside the window.
     fn slot(&self, page: u32) -> Result<usize, Fault>
         ensures { MatchResult result (λ k. InWindow self.now page k) (λ f. Hit (single OutsideWindow SpaceLayer 0 (page * 4096) (Outside (means self.now) page)) f) }
     {
-        let first = self.first();
-        if page < first || page - first >= self.count() {
-            return Err(page_refusal(Reason::OutsideWindow, page));
+        match page.checked_sub(self.figures.first()) {
+            Some(j) if j < self.figures.count() => Ok(1024 + j as usize),
+            _ => Err(page_refusal(Reason::OutsideWindow, page)),
         }
-        Ok(1024 + (page - first) as usize)
     }
 
     // What an entry of the leaf tables says.
@@ -65,16 +43,9 @@ impl<'a> Sv39<'a> {
             return None;
         }
         Some(Mapping {
-            frame: (page_in(entry) - self.origin()) as u32,
+            frame: (page_in(entry) - self.figures.origin()) as u32,
             rights: rights_in(entry),
         })
-    }
-
-    // Where a data frame begins in the memory.
-    fn start(&self, frame: u32) -> usize
-        ensures { result ≡ place self.now.figures frame 0 }
-    {
-        (self.figures.leaves as usize + 2 + frame as usize) * 4096
     }
 
     // Where a byte of a frame lies in the memory; refused where no page has the frame, or the index is past the page.
@@ -84,7 +55,7 @@ impl<'a> Sv39<'a> {
         if index >= 4096 || !self.frames.is_used(frame) {
             return Err(refusal(Reason::FrameUnused, u64::from(frame)));
         }
-        Ok(self.start(frame) + index as usize)
+        Ok(self.figures.start(frame) + index as usize)
     }
 }
 
@@ -95,8 +66,8 @@ impl<'a> Space for Sv39<'a> {
 
     fn bounds(&self) -> Bounds {
         Bounds {
-            first: self.first(),
-            count: self.count(),
+            first: self.figures.first(),
+            count: self.figures.count(),
             frames: self.frames.total,
         }
     }
@@ -133,8 +104,8 @@ impl<'a> Space for Sv39<'a> {
             return Err(refusal(Reason::RightsNumber, u64::from(rights)));
         }
         let frame = self.frames.head;
-        let entry = leaf_of(self.origin() + u64::from(frame), rights);
-        let at = self.start(frame);
+        let entry = leaf_of(self.figures.origin() + u64::from(frame), rights);
+        let at = self.figures.start(frame);
         self.tables.zero(at, 4096);
         self.tables.set_entry(slot, entry);
         let _ = self.frames.take(page);
