@@ -1,15 +1,11 @@
 -- What writes leave of memory. Assumes nothing.
-use Rattle.std.proofs.Common.{ℕ, ◌-◌, List, set, ◌∙◌, arith, length-set}
+use Rattle.std.proofs.Common.{ℕ, ◌-◌, List, set, arith, length-set}
 use Rattle.std.proofs.lemmas.Grind.{common_steps}
 use Rattle.space.specs.Memory.{Bytes, Apart, Zeroed}
 
 -- One byte is written.
 pub apart_one : (at v : ℕ) (xs : List ℕ) → Apart at 1 xs (set xs at v)
 apart_one at v xs = record { long = length-set xs at v; rest = λ k o. grind (arith, common_steps) }
-
--- One write after another within the same places.
-pub apart_both : {at n : ℕ} {xs ys zs : List ℕ} → Apart at n xs ys → Apart at n ys zs → Apart at n xs zs
-apart_both a b = record { long = b.long ∙ a.long; rest = λ k o. b.rest k o ∙ a.rest k o }
 
 -- Zeros among bytes are bytes.
 pub bytes_zeroed : (at n : ℕ) (xs ys : List ℕ) → Bytes xs → Zeroed at n xs ys → Bytes ys

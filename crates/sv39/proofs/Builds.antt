@@ -1,5 +1,5 @@
 -- The making of tables. Assumes nothing.
-use Rattle.std.proofs.Common.{◌≡◌, ℕ, ◌+◌, ◌*◌, ◌<◌, ◌≤◌, List, refl, ◌∙◌, arith}
+use Rattle.std.proofs.Common.{◌≡◌, ℕ, ◌+◌, ◌*◌, ◌<◌, ◌≤◌, List, ◌∙◌, arith}
 use Rattle.std.proofs.lemmas.Bool.Decides.{nat_tests}
 use Rattle.space.specs.Memory.{Apart, Zeroed}
 use Rattle.sv39.specs.declared.figures.Figures.{Figures}
@@ -33,10 +33,3 @@ built_more g n xs ys zs less high b w = record {
   middle = λ i h. let here = w.here in let other = word_other w (512 + i) in let was = b.middle i h in grind (arith, nat_tests);
   slots = λ j h. word_other w (1024 + j) (λ e. omega arith) ∙ b.slots j h;
 }
-
--- The same tables, over other memory before.
-pub built_from : {g : Figures} {n : ℕ} {ws xs ys : List ℕ} → Apart 0 ((g.leaves + 2) * 4096) ws ys → Built g n xs ys → Built g n ws ys
-built_from a b = record { apart = a; root = b.root; middle = b.middle; slots = b.slots }
-
-pub apart_self : (n : ℕ) (xs : List ℕ) → Apart 0 n xs xs
-apart_self n xs = record { long = refl; rest = λ k o. refl }
