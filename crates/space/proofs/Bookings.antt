@@ -42,8 +42,6 @@ pub booked_take : (first count : ℕ) (page page' : ℕ → Option Mapping) (x :
     → Booked first count page' (record { entries = set x.entries x.head (mark p); total = x.total; head = get_or x.entries x.head 0; spare = x.spare - 1 })
 booked_take first count page page' x p h b low high gone some is here same =
     let r = ready first count page x b some in
-    let es = x.entries in
-    let back : (q : ℕ) → (q ≡ p → ⊥) → (k : Mapping) → page' q ≡ Some k → page q ≡ Some k = λ q ne k e. sym (same q ne) ∙ e in
     let apart : (q : ℕ) (k : Mapping) → page q ≡ Some k → k.frame ≡ x.head → ⊥ =
     λ q k e d. omega (arith, (page_used first count page x b q k e).2, r.unused, ap (λ f. get_or x.entries f 0) d) in
     record {

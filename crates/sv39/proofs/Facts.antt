@@ -15,10 +15,10 @@ use Rattle.sv39.specs.Spaces.{memory_of, means, InWindow, IsByte}
 use Rattle.sv39.proofs.Pages.{page_inside}
 use Rattle.sv39.proofs.Keeps.{Reads, reads, origin_fits, room_for, kept_map, does_map, kept_unmap, does_unmap, kept_poke, does_poke, taken, given}
 
--- An option that is none.
-pub held_none : {A : Type 0} (o : Option A) → is_some o ≡ false → o ≡ None
-held_none None e = refl
-held_none (Some x) e = cc
+-- An option whose test for a value comes out false.
+pub none_where : {A : Type 0} (o : Option A) → is_some o ≡ false → o ≡ None
+none_where None e = refl
+none_where (Some x) e = cc
 
 -- The entry of a mapped page names a data frame.
 pub named : (t : Sv39) (k e : ℕ) → 1024 ≤ k → k < 1024 + count t.figures → e ≡ word (memory_of t) k → 0 < e
@@ -89,7 +89,7 @@ pub map_step : (t : Sv39) (p r k at n e : ℕ) (m₁ m₂ : List ℕ) (was : Opt
     → at ≡ place t.figures t.frames.head 0 → n ≡ origin t.figures + t.frames.head → e ≡ leaf (n % 2 ^ 44) r → Zeroed at 4096 (memory_of t) m₁ → Written k e m₁ m₂ → Takes p o (pool t.frames) y
     → Kept t.figures m₂ y × Maps p r (Ok tt) (means t) (meant t.figures y.total m₂)
 map_step t p r k at n e m₁ m₂ was o y w was_is free some lawful at_is n_is e_is zeroed written takes =
-    let none = sym was_is ∙ held_none was (sym free) in
+    let none = sym was_is ∙ none_where was (sym free) in
     let low = w.low in
     let high = w.high in
     let live : 0 < t.figures.leaves = omega arith in

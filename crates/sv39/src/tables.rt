@@ -52,6 +52,7 @@ impl<'a> Tables<'a> {
         let page = figures.bottom();
         self.zero(0, (figures.leaves as usize + 2) * 4096);
         self.set_entry(figures.gigabyte as usize, pointer_to(page + 1));
+        // By number: what chunks_exact_mut lends is not known to a proof after the write.
         for i in 0..figures.leaves {
             self.set_entry(512 + i as usize, pointer_to(page + 2 + u64::from(i)));
         }
