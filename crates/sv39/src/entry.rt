@@ -22,7 +22,7 @@ const PAGE: u32 = 10;
 // How many physical pages there are.
 const PAGES: u64 = 1 << 44;
 
-// A physical page and the rights to it: 4 read, 2 write, 1 execute.
+// A physical page and the rights to it: 4 read, 2 write, 1 execute. They stay a number, since an entry may have any of the eight.
 #[derive(Clone, Copy, PartialEq, Eq, Debug)]
 pub struct Leaf {
     pub page: u64,
