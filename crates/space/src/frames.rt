@@ -14,6 +14,20 @@ pub struct Frames<'a> {
 }
 
 impl<'a> Frames<'a> {
+    // So many frames in a lent buffer, all of them free.
+    pub fn new(entries: &'a mut [u32], total: u32) -> Frames<'a>
+        ensures { Released (record { entries = entries.old; total = total; head = 0; spare = 0 }) (pool result) }
+    {
+        let mut frames = Frames {
+            entries,
+            total,
+            head: 0,
+            spare: 0,
+        };
+        frames.release_all();
+        frames
+    }
+
     // Makes every frame free.
     pub fn release_all(&mut self)
         ensures { Released (pool self.old) (pool self.new) }

@@ -23,12 +23,10 @@ kept_built g m m' x y a total b released =
     (λ i z. b.root i z.1) (λ i z. b.middle i z.1) b.slots released
 
 -- A space without pages and frames.
-pub kept_void : (g : Figures) (m es : List ℕ) → g.base ≡ 0 → g.gigabyte ≡ 0 → g.leaves ≡ 0 → Kept g m (record { entries = es; total = 0; head = 0; spare = 0 })
-kept_void g m es base gigabyte leaves =
-    kept_empty g m (record { entries = es; total = 0; head = 0; spare = 0 }) (record { entries = es; total = 0; head = 0; spare = 0 })
-    (omega arith) (omega arith) (ap (λ n. n % 4096) base) (omega arith) (omega arith)
-    (λ live. absurd (omega arith)) (λ i z. absurd (omega (arith, z.0))) (λ i z. absurd (omega (arith, z.0))) (λ j h. absurd (omega arith))
-    (record { long = refl; total = refl; head = refl; spare = refl; next = λ k l w. absurd (omega arith); rest = λ k l. refl })
+pub kept_void : (g : Figures) (m : List ℕ) (x y : Pool) → g.base ≡ 0 → g.gigabyte ≡ 0 → g.leaves ≡ 0 → x.total ≡ 0 → Released x y → Kept g m y
+kept_void g m x y base gigabyte leaves total released =
+    kept_empty g m x y (omega arith) (omega arith) (ap (λ n. n % 4096) base) (omega arith) (omega arith)
+    (λ live. absurd (omega arith)) (λ i z. absurd (omega (arith, z.0))) (λ i z. absurd (omega (arith, z.0))) (λ j h. absurd (omega arith)) released
 
 -- The leaf table entry of a page is the one that its mapping has.
 leaf_is : (g : Figures) (total e : ℕ) → (0 < e → Fine g total e) → e ≡ leaf_for g (mapping_in g e)

@@ -40,12 +40,7 @@ impl<'a> Sv39<'a> {
     {
         Sv39 {
             tables: Tables { memory },
-            frames: Frames {
-                entries: free,
-                total: 0,
-                head: 0,
-                spare: 0,
-            },
+            frames: Frames::new(free, 0),
             figures: Figures::default(),
         }
     }
@@ -57,17 +52,10 @@ impl<'a> Sv39<'a> {
     {
         let total = (memory.len() / 4096) as u32 - (figures.leaves + 2);
         let mut tables = Tables { memory };
-        let mut frames = Frames {
-            entries: free,
-            total,
-            head: 0,
-            spare: 0,
-        };
         tables.build(figures);
-        frames.release_all();
         Sv39 {
             tables,
-            frames,
+            frames: Frames::new(free, total),
             figures,
         }
     }
