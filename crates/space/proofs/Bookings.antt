@@ -1,22 +1,12 @@
 -- Pages and the bookkeeping of their frames change together. Assumes nothing.
-use Rattle.std.proofs.Common.{◌≡◌, ℕ, suc, ◌+◌, ◌-◌, ◌^◌, ◌<◌, ◌≤◌, true, eqb, length, get_or, set, Some, None, Option, sym, refl, ap, ◌∙◌, subst, inl, inr, ⊎_elim, arith, length-set, get_or-set_other, get_or-set_same}
-use Rattle.std.proofs.lemmas.Bool.{cases_eq, or_left, or_right, eq-eqb}
+use Rattle.std.proofs.Common.{◌≡◌, ℕ, suc, ◌+◌, ◌-◌, ◌^◌, ◌<◌, ◌≤◌, true, length, get_or, set, Some, None, Option, sym, ap, ◌∙◌, subst, ⊎_elim, arith, length-set, get_or-set_other, get_or-set_same}
+use Rattle.std.proofs.lemmas.Bool.{cases_eq}
+use Rattle.std.proofs.lemmas.Bool.Decides.{nat_tests}
 use Rattle.space.specs.declared.parts.Mapping.{Mapping}
 use Rattle.space.specs.Meaning.{Meaning, Held, Lawful, one}
 use Rattle.space.specs.Frames.{Pool, mark, chained, frame_or, allowed, Booked, Released, IsUsed}
-use Rattle.space.proofs.Caches.{some_none}
 use Rattle.space.proofs.Chains.{chain_parts, chain_le, chain_pop, chain_push, chain_whole}
 use Rattle.space.proofs.Tallies.{tally_none, tally_same, tally_more}
-
--- Where no mapping is possible there is none.
-pub none_unless : {A : Type 0} (o : Option A) → ((x : A) → o ≡ Some x → ⊥) → o ≡ None
-none_unless None no_one = refl
-none_unless (Some x) no_one = absurd (no_one x refl)
-
--- A frame below the other number is one of a mapping.
-frame_some : (o : Option Mapping) (other f : ℕ) → frame_or other o ≡ f → f < other → (h : Mapping) × (o ≡ Some h) × (h.frame ≡ f)
-frame_some None other f e l = absurd (omega arith)
-frame_some (Some h) other f e l = (h, refl, e)
 
 -- What is known where frames are free.
 pub record Ready (x : Pool) : Type 0 where
@@ -38,28 +28,13 @@ module _ (first count : ℕ) (page : ℕ → Option Mapping) (x : Pool) (b : Boo
       let l = b.below p h e in
       (l, omega (arith, b.room), omega (arith, b.owned p h e, (b.inside p h e).1, b.window, b.few))
 
-  pub used_page : (f : ℕ) → IsUsed x f → (p : ℕ) × (h : Mapping) × (page p ≡ Some h) × (h.frame ≡ f)
-  used_page f u =
-      let s = frame_some (page (mark (get_or x.entries f 0))) x.total f (b.used f (u.0, u.2)) u.0 in
-      (mark (get_or x.entries f 0), s.0, s.1, s.2)
-
--- A frame is used exactly when a page has it.
+-- A frame that a page has is used.
 pub held_used : (first count : ℕ) (m : Meaning) (x : Pool) → Booked first count m.page x → (f : ℕ) → Held m f → IsUsed x f
 held_used first count m x b f (p, h, e, is) = subst (IsUsed x) is (page_used first count m.page x b p h e)
-
-pub used_held : (first count : ℕ) (m : Meaning) (x : Pool) → Booked first count m.page x → (f : ℕ) → IsUsed x f → Held m f
-used_held first count m x b f u = used_page first count m.page x b f u
 
 -- The first free frame is of no page.
 pub head_free : (first count : ℕ) (m : Meaning) (x : Pool) → Booked first count m.page x → 0 < x.spare → Held m x.head → ⊥
 head_free first count m x b some held = omega (arith, (held_used first count m x b x.head held).2, (ready first count m.page x b some).unused)
-
--- A page at which two page functions may differ.
-at_page : (p : ℕ) (P : ℕ → Type 0) → P p → ((q : ℕ) → (q ≡ p → ⊥) → P q) → (q : ℕ) → P q
-at_page p P here there q = ⊎_elim (λ (e : q ≡ p). subst P (sym e) here) (λ (e : q ≡ p → ⊥). there q e) (cases_eq q p)
-
-some_eq : {h k : Mapping} → ◌≡◌ {A = Option Mapping} (Some h) (Some k) → h ≡ k
-some_eq e = cc
 
 -- The page p, which was unmapped, gets the first free frame.
 pub booked_take : (first count : ℕ) (page page' : ℕ → Option Mapping) (x : Pool) (p : ℕ) (h : Mapping) → Booked first count page x → first ≤ p → p < first + count → page p ≡ None → 0 < x.spare
@@ -67,32 +42,25 @@ pub booked_take : (first count : ℕ) (page page' : ℕ → Option Mapping) (x :
     → Booked first count page' (record { entries = set x.entries x.head (mark p); total = x.total; head = get_or x.entries x.head 0; spare = x.spare - 1 })
 booked_take first count page page' x p h b low high gone some is here same =
     let r = ready first count page x b some in
-    let es = x.entries in
-    let back : (q : ℕ) → (q ≡ p → ⊥) → (k : Mapping) → page' q ≡ Some k → page q ≡ Some k = λ q ne k e. sym (same q ne) ∙ e in
     let apart : (q : ℕ) (k : Mapping) → page q ≡ Some k → k.frame ≡ x.head → ⊥ =
     λ q k e d. omega (arith, (page_used first count page x b q k e).2, r.unused, ap (λ f. get_or x.entries f 0) d) in
     record {
       window = b.window;
       few = b.few;
       room = simp length-set b.room;
-      inside = at_page p (λ q. (k : Mapping) → page' q ≡ Some k → (first ≤ q) × (q < first + count)) (λ k e. (low, high)) (λ q ne k e. b.inside q k (back q ne k e));
-      below = at_page p (λ q. (k : Mapping) → page' q ≡ Some k → k.frame < x.total)
-          (λ k e. omega (arith, r.below, ap (λ (z : Mapping). z.frame) (some_eq (sym here ∙ e))))
-          (λ q ne k e. b.below q k (back q ne k e));
-      owned = at_page p (λ q. (k : Mapping) → page' q ≡ Some k → get_or (set x.entries x.head (mark p)) k.frame 0 ≡ mark q)
-          (λ k e. ap (λ f. get_or (set x.entries x.head (mark p)) f 0) (sym (ap (λ (z : Mapping). z.frame) (some_eq (sym here ∙ e))) ∙ is) ∙ get_or-set_same x.entries x.head (mark p) 0 r.within)
-          (λ q ne k e. get_or-set_other x.entries x.head k.frame (mark p) 0 (apart q k (back q ne k e)) ∙ b.owned q k (back q ne k e));
-      used = λ f u. ⊎_elim
-          (λ (e : f ≡ x.head).
-          let v = ap (λ g. get_or (set x.entries x.head (mark p)) g 0) e ∙ get_or-set_same x.entries x.head (mark p) 0 r.within in
-          let back_to : mark (get_or (set x.entries x.head (mark p)) f 0) ≡ p = omega (arith, b.window) in
-          ap (λ q. frame_or x.total (page' q)) back_to ∙ ap (frame_or x.total) here ∙ is ∙ sym e)
-          (λ (ne : f ≡ x.head → ⊥).
-          let v = get_or-set_other x.entries x.head f (mark p) 0 ne in
-          let w = b.used f (u.0, omega (arith, u.1)) in
-          ap (λ y. frame_or x.total (page' (mark y))) v
-          ∙ ap (frame_or x.total) (same (mark (get_or x.entries f 0)) (λ d. omega (arith, u.0, w, ap (λ q. frame_or x.total (page q)) d, ap (frame_or x.total) gone))) ∙ w)
-          (cases_eq f x.head);
+      inside = λ q k e. let other = same q in let was = b.inside q k in grind arith;
+      below = λ q k e. let other = same q in let was = b.below q k in let at = r.below in grind arith;
+      owned = λ q k e.
+          let other = same q in let was = b.owned q k in let free = apart q k in
+          let put = get_or-set_same x.entries x.head (mark p) 0 r.within in
+          let kept = get_or-set_other x.entries x.head k.frame (mark p) 0 in
+          grind arith;
+      used = λ f u.
+          let put = get_or-set_same x.entries x.head (mark p) 0 r.within in
+          let kept = get_or-set_other x.entries x.head f (mark p) 0 in
+          let was = b.used f in
+          let other = same (mark (get_or x.entries f 0)) in
+          grind (arith, b.window);
       chain = chain_pop x.total x.entries (mark p) x.head (x.spare - 1) r.chain;
       counted =
           let t = tally_more page page' p first count low high (ap one gone) (ap one here) same in
@@ -104,26 +72,29 @@ pub booked_give : (first count : ℕ) (page page' : ℕ → Option Mapping) (x :
     → Booked first count page' (record { entries = set x.entries h.frame x.head; total = x.total; head = h.frame; spare = x.spare + 1 })
 booked_give first count page page' x p h b was gone same =
     let u = page_used first count page x b p h was in
-    let other : (q : ℕ) → (k : Mapping) → page' q ≡ Some k → (q ≡ p → ⊥) = λ q k e d. some_none (sym e ∙ ap page' d ∙ gone) in
-    let back : (q : ℕ) (k : Mapping) → page' q ≡ Some k → page q ≡ Some k = λ q k e. sym (same q (other q k e)) ∙ e in
+    let back : (q : ℕ) (k : Mapping) → page' q ≡ Some k → (q ≡ p → ⊥) × (page q ≡ Some k) = λ q k e. let other = same q in grind arith in
     record {
       window = b.window;
       few = b.few;
       room = simp length-set b.room;
-      inside = λ q k e. b.inside q k (back q k e);
-      below = λ q k e. b.below q k (back q k e);
+      inside = λ q k e. b.inside q k (back q k e).1;
+      below = λ q k e. b.below q k (back q k e).1;
       owned = λ q k e.
-          get_or-set_other x.entries h.frame k.frame x.head 0
-          (λ d. other q k e (omega (arith, b.window, (b.inside q k (back q k e)).1, (b.inside p h was).1, b.owned q k (back q k e), b.owned p h was, ap (λ f. get_or x.entries f 0) d)))
-          ∙ b.owned q k (back q k e);
+          let at = back q k e in
+          let one = b.owned p h was in
+          let two = b.owned q k at.1 in
+          let low = b.inside p h was in
+          let high = b.inside q k at.1 in
+          let kept = get_or-set_other x.entries h.frame k.frame x.head 0 in
+          grind (arith, b.window, at.0);
       used = λ f w. ⊎_elim
           (λ (e : f ≡ h.frame).
-          let v = ap (λ g. get_or (set x.entries h.frame x.head) g 0) e ∙ get_or-set_same x.entries h.frame x.head 0 u.1 in
-          absurd (omega (arith, w.1, chain_le x.total x.entries x.head x.spare b.chain)))
+          let put = get_or-set_same x.entries h.frame x.head 0 u.1 in
+          absurd (omega (arith, w.1, ap (λ g. get_or (set x.entries h.frame x.head) g 0) e, chain_le x.total x.entries x.head x.spare b.chain)))
           (λ (ne : f ≡ h.frame → ⊥).
-          let v = get_or-set_other x.entries h.frame f x.head 0 ne in
+          let kept = get_or-set_other x.entries h.frame f x.head 0 ne in
           let z = b.used f (w.0, omega (arith, w.1)) in
-          ap (λ y. frame_or x.total (page' (mark y))) v
+          ap (λ y. frame_or x.total (page' (mark y))) kept
           ∙ ap (frame_or x.total) (same (mark (get_or x.entries f 0)) (λ d. ne (sym z ∙ ap (λ q. frame_or x.total (page q)) d ∙ ap (frame_or x.total) was))) ∙ z)
           (cases_eq f h.frame);
       chain =
@@ -141,9 +112,9 @@ booked_none first count page x y window few room none r = record {
   window = window;
   few = omega (arith, r.total);
   room = omega (arith, r.total, r.long);
-  inside = λ q h e. absurd (some_none (sym e ∙ none q));
-  below = λ q h e. absurd (some_none (sym e ∙ none q));
-  owned = λ q h e. absurd (some_none (sym e ∙ none q));
+  inside = λ q h e. let z = sym e ∙ none q in cc;
+  below = λ q h e. let z = sym e ∙ none q in cc;
+  owned = λ q h e. let z = sym e ∙ none q in cc;
   used = λ f u.
       let l : f < x.total = omega (arith, u.0, r.total) in
       absurd (omega (arith, u.1, r.total, r.next f l (omega arith)));
@@ -170,7 +141,4 @@ booked_same first count page page' x b same = record {
 
 -- Lawful rights pass the test.
 pub lawful_allowed : (r : ℕ) → Lawful r → allowed r ≡ true
-lawful_allowed r (inl a) = or_left (eqb r 1) _ (eq-eqb r 1 a)
-lawful_allowed r (inr (inl a)) = or_right (eqb r 1) _ (or_left (eqb r 4) _ (eq-eqb r 4 a))
-lawful_allowed r (inr (inr (inl a))) = or_right (eqb r 1) _ (or_right (eqb r 4) _ (or_left (eqb r 5) _ (eq-eqb r 5 a)))
-lawful_allowed r (inr (inr (inr a))) = or_right (eqb r 1) _ (or_right (eqb r 4) _ (or_right (eqb r 5) _ (eq-eqb r 6 a)))
+lawful_allowed r lawful = grind (arith, nat_tests)

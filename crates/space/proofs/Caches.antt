@@ -1,13 +1,11 @@
 -- What stays true of a TLB's entries. Assumes nothing.
-use Rattle.std.proofs.Common.{◌≡◌, ℕ, zero, suc, ◌%◌, List, [], ◌∷◌, get_or, set, Some, None, Ok, Err, Option, Result, sym, ap, ◌∙◌, arith, lit<, get_or-set_other}
+use Rattle.std.proofs.Common.{◌≡◌, ℕ, ◌%◌, List, get_or, set, Some, None, Ok, Err, Option, Result, sym, ap, ◌∙◌, arith, lit<, get_or-set_other}
+use Rattle.std.proofs.lemmas.Grind.{common_steps}
 use Rattle.faults.specs.declared.fault.Fault.{Fault}
 use Rattle.space.specs.declared.tlb.Entry.{Entry}
 use Rattle.space.specs.Meaning.{Meaning}
 use Rattle.space.specs.Calls.{Maps, Unmaps}
 use Rattle.space.specs.Cache.{Placed, Agrees, OneChanged}
-
-pub some_none : {A : Type 0} {x : A} → ◌≡◌ {A = Option A} (Some x) None → ⊥
-some_none e = let z : ◌≡◌ {A = ℕ} 0 1 = cc in omega arith
 
 -- After a mapping, which meets no entry.
 pub agrees_map : (m n : Meaning) (es : List (Option Entry)) (p rights : ℕ) (r : Result (Unit {0}) Fault) → Maps p rights r m n → Agrees m es → Agrees n es
@@ -17,11 +15,7 @@ agrees_map m n es p rights (Err f) (first, same) agrees k x e = ap (λ (z : Mean
 
 -- An entry of a list with one place emptied is one of the list, at another place.
 emptied : (es : List (Option Entry)) (k j : ℕ) (x : Entry) → get_or (set es k None) j None ≡ Some x → (get_or es j None ≡ Some x) × (j ≡ k → ⊥)
-emptied [] k j x e = absurd (some_none (sym e))
-emptied (y ∷ es) zero zero x e = absurd (some_none (sym e))
-emptied (y ∷ es) zero (suc j) x e = (e, λ q. omega arith)
-emptied (y ∷ es) (suc k) zero x e = (e, λ q. omega arith)
-emptied (y ∷ es) (suc k) (suc j) x e = let i = emptied es k j x e in (i.0, λ q. i.1 (omega arith))
+emptied es k j x e = grind (arith, common_steps)
 
 pub placed_emptied : (es : List (Option Entry)) (k : ℕ) → Placed es → Placed (set es k None)
 placed_emptied es k placed j x e = placed j x (emptied es k j x e).0

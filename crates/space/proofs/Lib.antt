@@ -3,4 +3,3 @@ pub mod Chains
 pub mod Tallies
 pub mod Bookings
 pub mod Writes
-pub mod Refusals

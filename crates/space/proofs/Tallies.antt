@@ -1,5 +1,5 @@
 -- Counts that change by one. Assumes nothing.
-use Rattle.std.proofs.Common.{◌≡◌, ℕ, zero, suc, ◌+◌, ◌<◌, ◌≤◌, None, Option, sym, refl, ap, ◌∙◌, ⊎_elim, arith}
+use Rattle.std.proofs.Common.{◌≡◌, ℕ, zero, suc, ◌+◌, ◌<◌, ◌≤◌, None, Option, refl, ap, ⊎_elim, arith}
 use Rattle.std.proofs.lemmas.Bool.{cases_eq}
 use Rattle.space.specs.declared.parts.Mapping.{Mapping}
 use Rattle.space.specs.Meaning.{one, tally}
@@ -21,14 +21,8 @@ tally_same page other a (suc n) same =
 pub tally_more : (page other : ℕ → Option Mapping) (p a n : ℕ) → a ≤ p → p < a + n → one (page p) ≡ 0 → one (other p) ≡ 1 → ((q : ℕ) → (q ≡ p → ⊥) → other q ≡ page q) → tally other a n ≡ tally page a n + 1
 unfolding tally
 tally_more page other p a zero low high was is same = absurd (omega arith)
-tally_more page other p a (suc n) low high was is same = ⊎_elim
-    (λ (e : p ≡ a + n).
-    let s = tally_same page other a n (λ q h. same q (λ d. omega arith)) in
-    let w : one (page (a + n)) ≡ 0 = ap (λ q. one (page q)) (sym e) ∙ was in
-    let i : one (other (a + n)) ≡ 1 = ap (λ q. one (other q)) (sym e) ∙ is in
-    omega arith)
-    (λ (ne : p ≡ a + n → ⊥).
-    let s = tally_more page other p a n low (omega arith) was is same in
-    let f = ap one (same (a + n) (λ d. ne (sym d))) in
-    omega arith)
-    (cases_eq p (a + n))
+tally_more page other p a (suc n) low high was is same =
+    let before = tally_same page other a n in
+    let more = tally_more page other p a n low in
+    let here = same (a + n) in
+    ⊎_elim (λ (e : p ≡ a + n). let s = before (λ q h. same q (omega arith)) in grind arith) (λ (ne : p ≡ a + n → ⊥). let s = more (omega arith) was is same in grind arith) (cases_eq p (a + n))

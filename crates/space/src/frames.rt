@@ -1,8 +1,10 @@
 // Which frames of a space are free, in a lent buffer with one entry for each frame.
 // A free frame's entry is the next free frame, the last one's the number of frames. A used frame's entry is above that: 2^32 - 1 less its page.
-ghost use Rattle.std.specs.Prelude.{◌≡◌, Decides};
+// The list of free frames runs through the lent entries: there is no heap, and a frame is given or taken in constant time.
+ghost use Rattle.std.specs.Prelude.{Decides};
 ghost use Rattle.space.specs.Frames.{pool, Released, Takes, Gives, IsUsed};
 
+// The number of frames stands beside the entries: the lent buffer may be longer, and a space of refused figures keeps it whole.
 #[derive(Drop)]
 pub struct Frames<'a> {
     pub entries: &'a mut [u32],
@@ -12,13 +14,28 @@ pub struct Frames<'a> {
 }
 
 impl<'a> Frames<'a> {
+    // So many frames in a lent buffer, all of them free.
+    pub fn new(entries: &'a mut [u32], total: u32) -> Frames<'a>
+        ensures { Released (record { entries = entries.old; total = total; head = 0; spare = 0 }) (pool result) }
+    {
+        let mut frames = Frames {
+            entries,
+            total,
+            head: 0,
+            spare: 0,
+        };
+        frames.release_all();
+        frames
+    }
+
     // Makes every frame free.
     pub fn release_all(&mut self)
         ensures { Released (pool self.old) (pool self.new) }
     {
-        let end = (self.total as usize).min(self.entries.len()) as u32;
-        for i in 0..end {
-            self.entries[i as usize] = i + 1;
+        let entries = &mut *self.entries;
+        let count = (self.total as usize).min(entries.len());
+        for (i, entry) in entries[..count].iter_mut().enumerate() {
+            *entry = i as u32 + 1;
         }
         self.head = 0;
         self.spare = self.total;
@@ -29,13 +46,12 @@ impl<'a> Frames<'a> {
         ensures { Takes page result (pool self.old) (pool self.new) }
     {
         let frame = self.head;
-        if self.spare == 0 || frame as usize >= self.entries.len() {
-            return None;
-        }
-        let next = self.entries[frame as usize];
-        self.entries[frame as usize] = u32::MAX - page;
+        let spare = self.spare.checked_sub(1)?;
+        let entries = &mut *self.entries;
+        let next = entries.get(frame as usize).copied()?;
+        entries[frame as usize] = u32::MAX - page;
         self.head = next;
-        self.spare -= 1;
+        self.spare = spare;
         Some(frame)
     }
 
@@ -43,6 +59,7 @@ impl<'a> Frames<'a> {
     pub fn give(&mut self, frame: u32)
         ensures { Gives frame (pool self.old) (pool self.new) }
     {
+        // By index: what a slice's get_mut lends is not known to a proof after the write.
         if (frame as usize) < self.entries.len() && self.spare < u32::MAX {
             self.entries[frame as usize] = self.head;
             self.head = frame;
@@ -54,9 +71,9 @@ impl<'a> Frames<'a> {
     pub fn is_used(&self, frame: u32) -> bool
         ensures { Decides result (IsUsed (pool self.now) frame) }
     {
-        if frame >= self.total || frame as usize >= self.entries.len() {
+        let Some(entry) = self.entries.get(frame as usize) else {
             return false;
-        }
-        self.entries[frame as usize] > self.total
+        };
+        frame < self.total && *entry > self.total
     }
 }

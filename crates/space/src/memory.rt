@@ -6,10 +6,7 @@ pub fn wipe(memory: &mut [u8], at: usize, count: usize)
     ensures { Wiped at count memory.old memory.new }
 {
     let length = memory.len();
-    if count > length || at > length - count {
-        return;
-    }
-    for i in 0..count {
-        memory[at + i] = 0;
+    if count <= length && at <= length - count {
+        memory[at..at + count].fill(0);
     }
 }

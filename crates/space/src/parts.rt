@@ -4,7 +4,7 @@ ghost use Rattle.space.specs.Meaning.{Lawful};
 
 use faults::fault::{Fault, Layer, Reason};
 
-// What a page is mapped to.
+// What a page is mapped to. The rights are a number and no enum: a call may ask for any number, and the refusal names it.
 #[derive(Clone, Copy, PartialEq, Eq, Debug)]
 pub struct Mapping {
     pub frame: u32,
@@ -23,17 +23,12 @@ pub struct Bounds {
 pub fn is_lawful(rights: u8) -> bool
     ensures { Decides result (Lawful rights) }
 {
-    rights == 1 || rights == 4 || rights == 5 || rights == 6
+    matches!(rights, 1 | 4 | 5 | 6)
 }
 
 // A refusal by an address space.
 pub fn refusal(reason: Reason, place: u64) -> Fault
     ensures { result ≡ record { reason = reason; layer = Layer.Space; «record» = 0; place = place } }
 {
-    Fault {
-        reason,
-        layer: Layer::Space,
-        record: 0,
-        place,
-    }
+    Fault::new(Layer::Space, reason, place)
 }

@@ -13,5 +13,5 @@ pub fn is_whole(bytes: usize) -> bool
 pub fn is_window(gigabyte: u32, leaves: u32) -> bool
     ensures { Decides result (LawfulWindow gigabyte leaves) }
 {
-    gigabyte <= 255 && leaves >= 1 && leaves <= 512
+    gigabyte <= 255 && (1..=512).contains(&leaves)
 }

@@ -9,7 +9,7 @@ use crate::space::Space;
 use faults::fault::Fault;
 
 // A page with its frame and rights.
-#[derive(Clone, Copy)]
+#[derive(Clone, Copy, PartialEq, Eq, Debug)]
 pub struct Entry {
     pub page: u32,
     pub mapping: Mapping,
@@ -59,16 +59,14 @@ impl<'s, S: Space> Space for Tlb<'s, S> {
         ensures one { OneChanged self.old.entries self.new.entries }
     {
         let slot = (page % 16) as usize;
-        if let Some(hit) = self.entries[slot] {
-            if hit.page == page {
-                return Some(hit.mapping);
-            }
+        if let Some(hit) = self.entries[slot]
+            && hit.page == page
+        {
+            return Some(hit.mapping);
         }
-        let found = self.below.look(page);
-        if let Some(mapping) = found {
-            self.entries[slot] = Some(Entry { page, mapping });
-        }
-        found
+        let mapping = self.below.look(page)?;
+        self.entries[slot] = Some(Entry { page, mapping });
+        Some(mapping)
     }
 
     fn map(&mut self, page: u32, rights: u8) -> Result<(), Fault> {

@@ -1,56 +1,35 @@
 -- The making of tables. Assumes nothing.
-use Rattle.std.proofs.Common.{◌≡◌, ℕ, ◌+◌, ◌*◌, ◌<◌, ◌≤◌, eqb, ltb, List, sym, refl, ap, ◌∙◌, inl, inr, ⊎_elim, arith}
-use Rattle.std.proofs.lemmas.Bool.{cases_eq, cases_lt, eq-eqb, ne_eqb, lt-ltb, le-ltb, cond-true, cond-false}
+use Rattle.std.proofs.Common.{◌≡◌, ℕ, ◌+◌, ◌*◌, ◌<◌, ◌≤◌, List, ◌∙◌, arith}
+use Rattle.std.proofs.lemmas.Bool.Decides.{nat_tests}
 use Rattle.space.specs.Memory.{Apart, Zeroed}
-use Rattle.sv39.specs.Tables.{word}
+use Rattle.sv39.specs.declared.figures.Figures.{Figures}
+use Rattle.sv39.specs.Tables.{bottom, word}
 use Rattle.sv39.specs.Writes.{Written, Built}
 use Rattle.sv39.specs.Entries.{pointer}
 use Rattle.sv39.proofs.Numbers.{word_apart, word_zeroed}
 
 -- One entry more within the first n bytes.
 pub apart_then : {n k v : ℕ} {xs ys zs : List ℕ} → Apart 0 n xs ys → Written k v ys zs → 8 * k + 8 ≤ n → Apart 0 n xs zs
-apart_then a w h = record {
-  long = w.apart.long ∙ a.long;
-  rest = λ i o. w.apart.rest i (⊎_elim (λ (l : i < 0). absurd (omega arith)) (λ (l : 0 + _ ≤ i). inr (omega arith)) o) ∙ a.rest i o;
-}
+apart_then a w h = record { long = w.apart.long ∙ a.long; rest = λ i o. w.apart.rest i (grind arith) ∙ a.rest i o }
 
 word_other : {k v : ℕ} {ys zs : List ℕ} → Written k v ys zs → (i : ℕ) → (i ≡ k → ⊥) → word zs i ≡ word ys i
-word_other {k} w i ne = word_apart w.apart i (⊎_elim
-    (λ (s : i < k). inl (omega arith))
-    (λ (s : k ≤ i). inr (⊎_elim (λ (e : i ≡ k). absurd (ne e)) (λ (e : i ≡ k → ⊥). omega arith) (cases_eq i k)))
-    (cases_lt i k))
+word_other w i ne = word_apart w.apart i (grind arith)
 
-pub built_none : (page gigabyte leaves : ℕ) (xs ys zs : List ℕ) → gigabyte < 512 → Zeroed 0 ((leaves + 2) * 4096) xs ys → Written gigabyte (pointer (page + 1)) ys zs → Built page gigabyte leaves 0 xs zs
-built_none page gigabyte leaves xs ys zs small z w = record {
+pub built_none : (g : Figures) (xs ys zs : List ℕ) → g.gigabyte < 512 → Zeroed 0 ((g.leaves + 2) * 4096) xs ys → Written g.gigabyte (pointer (bottom g + 1)) ys zs → Built g 0 xs zs
+built_none g xs ys zs small z w = record {
   apart = apart_then z.apart w (omega arith);
-  root = λ i h. ⊎_elim
-      (λ (e : i ≡ gigabyte). ap (word zs) e ∙ w.here ∙ sym (cond-true (eqb i gigabyte) _ 0 (eq-eqb i gigabyte e)))
-      (λ (e : i ≡ gigabyte → ⊥). word_other w i e ∙ word_zeroed z i (omega arith) (omega arith) ∙ sym (cond-false (eqb i gigabyte) (pointer (page + 1)) 0 (ne_eqb i gigabyte e)))
-      (cases_eq i gigabyte);
-  middle = λ i h. word_other w (512 + i) (λ e. omega arith) ∙ word_zeroed z (512 + i) (omega arith) (omega arith) ∙ sym (cond-false (ltb i 0) (pointer (page + 2 + i)) 0 (le-ltb i 0 (omega arith)));
+  root = λ i h. let here = w.here in let other = word_other w i in let none = word_zeroed z i (omega arith) (omega arith) in grind (arith, nat_tests);
+  middle = λ i h.
+      let other = word_other w (512 + i) (λ e. omega arith) in
+      let none = word_zeroed z (512 + i) (omega arith) (omega arith) in
+      grind (arith, nat_tests);
   slots = λ j h. word_other w (1024 + j) (λ e. omega arith) ∙ word_zeroed z (1024 + j) (omega arith) (omega arith);
 }
 
-pub built_more : (page gigabyte leaves n : ℕ) (xs ys zs : List ℕ) → n < leaves → leaves ≤ 512 → Built page gigabyte leaves n xs ys → Written (512 + n) (pointer (page + 2 + n)) ys zs → Built page gigabyte leaves (n + 1) xs zs
-built_more page gigabyte leaves n xs ys zs less high b w = record {
+pub built_more : (g : Figures) (n : ℕ) (xs ys zs : List ℕ) → n < g.leaves → g.leaves ≤ 512 → Built g n xs ys → Written (512 + n) (pointer (bottom g + 2 + n)) ys zs → Built g (n + 1) xs zs
+built_more g n xs ys zs less high b w = record {
   apart = apart_then b.apart w (omega arith);
   root = λ i h. word_other w i (λ e. omega arith) ∙ b.root i h;
-  middle = λ i h. ⊎_elim
-      (λ (e : i ≡ n).
-      ap (λ x. word zs (512 + x)) e ∙ w.here ∙ ap (λ x. pointer (page + 2 + x)) (sym e) ∙ sym (cond-true (ltb i (n + 1)) _ 0 (lt-ltb i (n + 1) (omega arith))))
-      (λ (ne : i ≡ n → ⊥).
-      word_other w (512 + i) (λ e. ne (omega arith)) ∙ b.middle i h ∙ ⊎_elim
-      (λ (l : i < n). cond-true (ltb i n) (pointer (page + 2 + i)) 0 (lt-ltb i n l) ∙ sym (cond-true (ltb i (n + 1)) _ 0 (lt-ltb i (n + 1) (omega arith))))
-      (λ (l : n ≤ i). cond-false (ltb i n) (pointer (page + 2 + i)) 0 (le-ltb i n l)
-      ∙ sym (cond-false (ltb i (n + 1)) (pointer (page + 2 + i)) 0 (le-ltb i (n + 1) (⊎_elim (λ (q : i ≡ n). absurd (ne q)) (λ (q : i ≡ n → ⊥). omega arith) (cases_eq i n)))))
-      (cases_lt i n))
-      (cases_eq i n);
+  middle = λ i h. let here = w.here in let other = word_other w (512 + i) in let was = b.middle i h in grind (arith, nat_tests);
   slots = λ j h. word_other w (1024 + j) (λ e. omega arith) ∙ b.slots j h;
 }
-
--- The same tables, over other memory before.
-pub built_from : (page gigabyte leaves n : ℕ) (ws xs ys : List ℕ) → Apart 0 ((leaves + 2) * 4096) ws ys → Built page gigabyte leaves n xs ys → Built page gigabyte leaves n ws ys
-built_from page gigabyte leaves n ws xs ys a b = record { apart = a; root = b.root; middle = b.middle; slots = b.slots }
-
-pub apart_self : (n : ℕ) (xs : List ℕ) → Apart 0 n xs xs
-apart_self n xs = record { long = refl; rest = λ k o. refl }

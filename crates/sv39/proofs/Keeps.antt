@@ -1,6 +1,7 @@
 -- What the calls do to a space in tables, and what they keep. Assumes nothing.
 use Rattle.std.proofs.Common.{◌≡◌, ℕ, ◌+◌, ◌-◌, ◌*◌, ◌%◌, ◌^◌, ◌<◌, ◌≤◌, List, length, get_or, set, Some, None, sym, refl, ap, ◌∙◌, subst, inl, inr, ⊎_elim, arith, get_or-set_other, get_or-set_same}
-use Rattle.std.proofs.lemmas.Bool.{cases_eq, cases_lt}
+use Rattle.std.proofs.lemmas.Bool.{cases_eq}
+use Rattle.std.proofs.lemmas.Bool.Decides.{nat_tests}
 use Rattle.space.specs.Meaning.{Held, Lawful}
 use Rattle.space.specs.Calls.{Cleared, Mapped, Unmapped, Poked}
 use Rattle.space.specs.Frames.{Pool, mark, allowed, Booked, Released}
@@ -11,21 +12,10 @@ use Rattle.sv39.specs.declared.figures.Figures.{Figures}
 use Rattle.sv39.specs.Entries.{page_in, rights_in, leaf}
 use Rattle.sv39.specs.Tables.{first, count, origin, word, slot, place, frame_in, mapping_in, page_at, meant}
 use Rattle.sv39.specs.Writes.{Written}
-use Rattle.sv39.specs.Invariants.{Whole, Rooted, Middled, Fine, Filled}
+use Rattle.sv39.specs.Invariants.{Whole, Rooted, Middled, Fine, Kept}
 use Rattle.sv39.proofs.Numbers.{word_apart, word_zeroed}
-use Rattle.sv39.proofs.Pages.{page_outside, page_inside, mapping_zero, mapping_more}
+use Rattle.sv39.proofs.Pages.{page_inside, mapping_zero, mapping_more}
 use Rattle.sv39.proofs.Worked.{encoded}
-
--- All that always holds.
-pub record Kept (g : Figures) (memory : List ℕ) (x : Pool) : Type 0 where
-  pub window : g.gigabyte ≤ 255
-  pub high : g.leaves ≤ 512
-  pub aligned : g.base % 4096 ≡ 0
-  pub whole : Whole g x.total (length memory)
-  pub rooted : Rooted g memory
-  pub middled : Middled g memory
-  pub filled : Filled g x.total memory
-  pub booked : Booked (first g) (count g) (page_at g memory) x
 
 -- What the leaf of a page with rights reads as.
 pub record Reads (page r e : ℕ) : Type 0 where
@@ -36,28 +26,15 @@ pub record Reads (page r e : ℕ) : Type 0 where
 pub reads : (page r : ℕ) → page < 2 ^ 44 → Lawful r → Reads page r (leaf page r)
 reads page r h l =
     let s = encoded.leaf page r h l in
-    record { some = ⊎_elim (λ (e : leaf page r ≡ 0). absurd (s.0 (inl (omega (arith, e))))) (λ (e : leaf page r ≡ 0 → ⊥). omega arith) (cases_eq (leaf page r) 0); frame = sym s.3; rights = sym s.4 }
+    record { some = grind (arith, s.0); frame = sym s.3; rights = sym s.4 }
 
 -- Pages whose entries are the same.
 pub same_page : (g : Figures) (m m' : List ℕ) (p : ℕ) → ((j : ℕ) → j ≡ p - first g → j < count g → slot m' j ≡ slot m j) → page_at g m' p ≡ page_at g m p
-same_page g m m' p same = ⊎_elim
-    (λ (l : p < first g). page_outside g m' p (inl l) ∙ sym (page_outside g m p (inl l)))
-    (λ (l : first g ≤ p). ⊎_elim
-    (λ (h : p < first g + count g).
-    page_inside g m' p l h ∙ ap (mapping_in g) (same (p - first g) refl (omega arith)) ∙ sym (page_inside g m p l h))
-    (λ (h : first g + count g ≤ p). page_outside g m' p (inr h) ∙ sym (page_outside g m p (inr h)))
-    (cases_lt p (first g + count g)))
-    (cases_lt p (first g))
+same_page g m m' p same = let here = same (p - first g) refl in grind (arith, nat_tests)
 
 -- No page is mapped where the leaf tables are zeros.
 pub none_left : (g : Figures) (m : List ℕ) → ((j : ℕ) → j < count g → slot m j ≡ 0) → (q : ℕ) → page_at g m q ≡ None
-none_left g m none q = ⊎_elim
-    (λ (l : q < first g). page_outside g m q (inl l))
-    (λ (l : first g ≤ q). ⊎_elim
-    (λ (h : q < first g + count g). page_inside g m q l h ∙ mapping_zero g (slot m (q - first g)) (none (q - first g) (omega arith)))
-    (λ (h : first g + count g ≤ q). page_outside g m q (inr h))
-    (cases_lt q (first g + count g)))
-    (cases_lt q (first g))
+none_left g m none q = let here = none (q - first g) in grind (arith, nat_tests, mapping_zero)
 
 -- A write to the data frames leaves the tables.
 pub data_apart : (g : Figures) (m m' : List ℕ) (at n : ℕ) → Apart at n m m' → (g.leaves + 2) * 4096 ≤ at → (i : ℕ) → i < 1024 + count g → word m' i ≡ word m i
@@ -89,10 +66,7 @@ room_for g m x k f live l = let w = k.whole live in omega arith
 -- The entry of the page p of the window is written.
 module _ (g : Figures) (m m' : List ℕ) (p v : ℕ) (low : first g ≤ p) (high : p < first g + count g) (w : Written (1024 + (p - first g)) v m m') where
   slot_same : (i : ℕ) → (i ≡ p - first g → ⊥) → slot m' i ≡ slot m i
-  slot_same i ne = word_apart w.apart (1024 + i) (⊎_elim
-      (λ (s : i < p - first g). inl (omega arith))
-      (λ (s : p - first g ≤ i). inr (⊎_elim (λ (e : i ≡ p - first g). absurd (ne e)) (λ (e : i ≡ p - first g → ⊥). omega arith) (cases_eq i (p - first g))))
-      (cases_lt i (p - first g)))
+  slot_same i ne = word_apart w.apart (1024 + i) (grind arith)
 
   table_same : (i : ℕ) → i < 1024 → word m' i ≡ word m i
   table_same i h = word_apart w.apart i (inl (omega arith))
@@ -101,10 +75,7 @@ module _ (g : Figures) (m m' : List ℕ) (p v : ℕ) (low : first g ≤ p) (high
   page_here = page_inside g m' p low high ∙ ap (mapping_in g) w.here
 
   pub page_other : (q : ℕ) → (q ≡ p → ⊥) → page_at g m' q ≡ page_at g m q
-  page_other q ne = ⊎_elim
-      (λ (s : q < first g). page_outside g m' q (inl s) ∙ sym (page_outside g m q (inl s)))
-      (λ (s : first g ≤ q). same_page g m m' q (λ i e _. slot_same i (λ d. ne (omega arith))))
-      (cases_lt q (first g))
+  page_other q ne = let here = slot_same (q - first g) in grind (arith, nat_tests)
 
   pub byte_same : (at : ℕ) → (g.leaves + 2) * 4096 ≤ at → get_or m' at 0 ≡ get_or m at 0
   byte_same at h = w.apart.rest at (inr (omega arith))
@@ -188,10 +159,7 @@ module _ (g : Figures) (m : List ℕ) (x : Pool) (k : Kept g m x) (p r : ℕ) (l
     byte = λ e i h s.
         let ne : e ≡ x.head → ⊥ = λ q. free (subst (Held (meant g x.total m)) q h) in
         byte_same g m₁ m' p _ low high w (place g e i) (omega arith)
-        ∙ z.apart.rest (place g e i) (⊎_elim
-        (λ (b : e < x.head). inl (omega arith))
-        (λ (b : x.head ≤ e). inr (⊎_elim (λ (q : e ≡ x.head). absurd (ne q)) (λ (q : e ≡ x.head → ⊥). omega arith) (cases_eq e x.head)))
-        (cases_lt e x.head));
+        ∙ z.apart.rest (place g e i) (grind arith);
   }
 
 -- The page p, which is mapped, gives its frame back.

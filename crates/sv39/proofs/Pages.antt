@@ -1,19 +1,15 @@
 -- The pages that tables give. Assumes nothing.
-use Rattle.std.proofs.Common.{◌≡◌, ℕ, zero, suc, ◌+◌, ◌-◌, ◌<◌, ◌≤◌, ◌||◌, ltb, leb, ◌⊎◌, List, Some, None, refl, ap, ⊎_elim, arith}
-use Rattle.std.proofs.lemmas.Bool.{or_from, or_left, or_right, lt-ltb, le-leb, le-ltb, lt-leb, cond-true, cond-false}
+use Rattle.std.proofs.Common.{◌≡◌, ℕ, zero, suc, ◌+◌, ◌-◌, ◌<◌, ◌≤◌, ◌⊎◌, List, Some, None, refl, ap, arith}
+use Rattle.std.proofs.lemmas.Bool.Decides.{nat_tests}
 use Rattle.sv39.specs.declared.figures.Figures.{Figures}
 use Rattle.sv39.specs.Entries.{rights_in}
 use Rattle.sv39.specs.Tables.{first, count, slot, frame_in, mapping_in, page_at}
 
 pub page_outside : (g : Figures) (memory : List ℕ) (p : ℕ) → (p < first g) ⊎ (first g + count g ≤ p) → page_at g memory p ≡ None
-page_outside g memory p o = cond-true (ltb p (first g) || leb (first g + count g) p) None _ (⊎_elim
-    (λ (h : p < first g). or_left (ltb p (first g)) _ (lt-ltb p (first g) h))
-    (λ (h : first g + count g ≤ p). or_right (ltb p (first g)) _ (le-leb (first g + count g) p h))
-    o)
+page_outside g memory p o = grind (arith, nat_tests)
 
 pub page_inside : (g : Figures) (memory : List ℕ) (p : ℕ) → first g ≤ p → p < first g + count g → page_at g memory p ≡ mapping_in g (slot memory (p - first g))
-page_inside g memory p low high = cond-false (ltb p (first g) || leb (first g + count g) p) None _
-    (or_from (ltb p (first g)) _ (le-ltb p (first g) low) (lt-leb (first g + count g) p high))
+page_inside g memory p low high = grind (arith, nat_tests)
 
 pub mapping_zero : (g : Figures) (e : ℕ) → e ≡ 0 → mapping_in g e ≡ None
 mapping_zero g e z = ap (mapping_in g) z

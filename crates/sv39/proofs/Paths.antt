@@ -1,5 +1,5 @@
 -- Where the walk of an address through a space's tables ends. Assumes nothing.
-use Rattle.std.proofs.Common.{◌≡◌, ℕ, zero, suc, ◌+◌, ◌-◌, ◌*◌, ◌/◌, ◌%◌, ◌^◌, ◌<◌, ◌≤◌, eqb, ltb, ◌⊎◌, List, length, Option, sym, refl, ap, ◌∙◌, subst, inl, inr, ⊎_elim, arith}
+use Rattle.std.proofs.Common.{◌≡◌, ℕ, zero, suc, ◌+◌, ◌-◌, ◌*◌, ◌/◌, ◌%◌, ◌^◌, ◌<◌, ◌≤◌, eqb, ltb, ◌⊎◌, List, length, Option, sym, refl, ap, ◌∙◌, subst, inr, ⊎_elim, arith}
 use native.Mathlib.Nat.{div-div-eq-div-mul}
 use Rattle.std.proofs.lemmas.Bool.{cases_eq, cases_lt, eq-eqb, ne_eqb, lt-ltb, le-ltb, cond-true, cond-false}
 use Rattle.space.specs.declared.parts.Mapping.{Mapping}
@@ -13,9 +13,9 @@ use Rattle.sv39.specs.declared.entry.Walk.TheVariants.{Reached, Empty}
 use Rattle.sv39.specs.Entries.{Says, rights_in, pointer}
 use Rattle.sv39.specs.Walks.{le, index, Goes, Walks}
 use Rattle.sv39.specs.Tables.{first, count, bottom, origin, word, slot, frame_in, mapping_in, page_at, Found, Shows}
-use Rattle.sv39.specs.Invariants.{Fine}
+use Rattle.sv39.specs.Invariants.{Fine, Kept}
 use Rattle.sv39.proofs.Pages.{page_outside, page_inside}
-use Rattle.sv39.proofs.Keeps.{Kept, origin_fits}
+use Rattle.sv39.proofs.Keeps.{origin_fits}
 use Rattle.sv39.proofs.Worked.{encoded}
 
 -- One level of a walk, from a table in the memory with the entry e.
@@ -102,10 +102,6 @@ shown g m x k live a small =
     (cases_lt (index 1 a) g.leaves))
     (λ (ne : index 2 a ≡ g.gigabyte → ⊥).
     let zero_root = root ∙ cond-false (eqb (index 2 a) g.gigabyte) _ _ (ne_eqb _ _ ne) in
-    stops g m a 2 small
-    (⊎_elim
-    (λ (l : a / 4096 / 262144 < g.gigabyte). inl (omega arith))
-    (λ (l : g.gigabyte ≤ a / 4096 / 262144). inr (⊎_elim (λ (e : a / 4096 / 262144 ≡ g.gigabyte). absurd (ne (i2 ∙ e))) (λ (no : a / 4096 / 262144 ≡ g.gigabyte → ⊥). omega (arith, k.high)) (cases_eq (a / 4096 / 262144) g.gigabyte)))
-    (cases_lt (a / 4096 / 262144) g.gigabyte))
+    stops g m a 2 small (grind (arith, k.high, i2))
     (level_zero m g.base a 2 g.base 0 0 (omega arith) (omega arith) zero_root refl))
     (cases_eq (index 2 a) g.gigabyte)

@@ -1,48 +1,37 @@
 -- Entries that are made, and the worked examples. Assumes nothing.
-use Rattle.std.proofs.Common.{◌≡◌, ℕ, ◌+◌, ◌*◌, ◌/◌, ◌^◌, ◌<◌, ◌≤◌, sym, refl, subst, inl, inr, ⊎_elim, arith, lit<}
+use Rattle.std.proofs.Common.{◌≡◌, ℕ, ◌+◌, ◌*◌, ◌^◌, ◌<◌, sym, refl, subst, inl, inr, ⊎_elim, arith, lit<}
 use Rattle.sv39.specs.declared.entry.Entry.TheVariants.{Table, Leaf}
-use Rattle.sv39.specs.Entries.{bit, Malformed, Pointing, Says, pointer, leaf}
+use Rattle.sv39.specs.Entries.{bit, Malformed, Says, pointer, leaf}
 use Rattle.sv39.specs.Examples.{Encoded, Examples}
 
 -- A valid readable leaf is well formed.
 well_leaf : (e : ℕ) → bit 0 e ≡ 1 → bit 1 e ≡ 1 → e < 2 ^ 54 → Malformed e → ⊥
-well_leaf e v r s = ⊎_elim (λ (b : bit 0 e ≡ 0). omega arith) (⊎_elim (λ (b : (bit 1 e ≡ 0) × (bit 2 e ≡ 1)). omega (arith, b.0))
-    (⊎_elim (λ (b : 2 ^ 54 ≤ e). omega arith) (λ (b : Pointing e × (0 < bit 4 e + bit 6 e + bit 7 e)). omega (arith, b.0))))
+well_leaf e v r s bad = grind arith
 
 -- A valid pointer without U, A and D is well formed.
 well_pointer : (e : ℕ) → bit 0 e ≡ 1 → bit 2 e ≡ 0 → e < 2 ^ 54 → bit 4 e + bit 6 e + bit 7 e ≡ 0 → Malformed e → ⊥
-well_pointer e v w s u = ⊎_elim (λ (b : bit 0 e ≡ 0). omega arith) (⊎_elim (λ (b : (bit 1 e ≡ 0) × (bit 2 e ≡ 1)). omega (arith, b.1))
-    (⊎_elim (λ (b : 2 ^ 54 ≤ e). omega arith) (λ (b : Pointing e × (0 < bit 4 e + bit 6 e + bit 7 e)). omega (arith, b.1))))
-
--- A valid leaf to execute only is well formed.
-well_execute : (e : ℕ) → bit 0 e ≡ 1 → bit 2 e ≡ 0 → bit 3 e ≡ 1 → e < 2 ^ 54 → Malformed e → ⊥
-well_execute e v w x s = ⊎_elim (λ (b : bit 0 e ≡ 0). omega arith) (⊎_elim (λ (b : (bit 1 e ≡ 0) × (bit 2 e ≡ 1)). omega (arith, b.1))
-    (⊎_elim (λ (b : 2 ^ 54 ≤ e). omega arith) (λ (b : Pointing e × (0 < bit 4 e + bit 6 e + bit 7 e)). omega (arith, b.0))))
+well_pointer e v w s u bad = grind arith
 
 pointer_says : (l page : ℕ) → page < 2 ^ 44 → Says l (pointer page) (Table page)
 unfolding pointer
 pointer_says l page h = (well_pointer (page * 2 ^ 10 + 1) (omega arith) (omega arith) (omega arith) (omega arith), omega arith, omega arith)
 
--- What a leaf with the bits x, y and z for R, W and X says.
-leaf_says : (page r e x y z : ℕ) → page < 2 ^ 44 → (Malformed e → ⊥) → e / 2 ^ 10 ≡ page → bit 1 e ≡ x → bit 2 e ≡ y → bit 3 e ≡ z → 4 * x + 2 * y + z ≡ r → 0 < r
-    → Says 0 e (Leaf (record { page = page; rights = r }))
-leaf_says page r e x y z h well p a b c rights some = (well, λ q. omega (arith, q), omega arith, omega arith, omega arith)
-
+-- What the leaf of each lawful number says.
 says_1 : (page : ℕ) → page < 2 ^ 44 → Says 0 (leaf page 1) (Leaf (record { page = page; rights = 1 }))
 unfolding leaf
-says_1 page h = leaf_says page 1 _ 0 0 1 h (well_execute _ (omega arith) (omega arith) (omega arith) (omega arith)) (omega arith) (omega arith) (omega arith) (omega arith) refl (omega arith)
+says_1 page h = (λ bad. grind arith, λ p. omega (arith, p), omega arith, omega arith, omega arith)
 
 says_4 : (page : ℕ) → page < 2 ^ 44 → Says 0 (leaf page 4) (Leaf (record { page = page; rights = 4 }))
 unfolding leaf
-says_4 page h = leaf_says page 4 _ 1 0 0 h (well_leaf _ (omega arith) (omega arith) (omega arith)) (omega arith) (omega arith) (omega arith) (omega arith) refl (omega arith)
+says_4 page h = (λ bad. grind arith, λ p. omega (arith, p), omega arith, omega arith, omega arith)
 
 says_5 : (page : ℕ) → page < 2 ^ 44 → Says 0 (leaf page 5) (Leaf (record { page = page; rights = 5 }))
 unfolding leaf
-says_5 page h = leaf_says page 5 _ 1 0 1 h (well_leaf _ (omega arith) (omega arith) (omega arith)) (omega arith) (omega arith) (omega arith) (omega arith) refl (omega arith)
+says_5 page h = (λ bad. grind arith, λ p. omega (arith, p), omega arith, omega arith, omega arith)
 
 says_6 : (page : ℕ) → page < 2 ^ 44 → Says 0 (leaf page 6) (Leaf (record { page = page; rights = 6 }))
 unfolding leaf
-says_6 page h = leaf_says page 6 _ 1 1 0 h (well_leaf _ (omega arith) (omega arith) (omega arith)) (omega arith) (omega arith) (omega arith) (omega arith) refl (omega arith)
+says_6 page h = (λ bad. grind arith, λ p. omega (arith, p), omega arith, omega arith, omega arith)
 
 pub encoded : Encoded
 encoded = record {

@@ -1,11 +1,11 @@
 -- What always holds of a space in Sv39 tables. Past a refused set-up there is no leaf table, and nothing is said of the memory. Assumes nothing.
-use Rattle.std.specs.Prelude.{◌≡◌, ℕ, zero, suc, ◌+◌, ◌-◌, ◌*◌, ◌^◌, ◌<◌, ◌≤◌, Bool, true, false, cond, ◌||◌, List, Some, None, Option, ◌==◌, nat_le, nat_lt, refl}
+use Rattle.std.specs.Prelude.{◌≡◌, ℕ, zero, suc, ◌+◌, ◌-◌, ◌*◌, ◌%◌, ◌^◌, ◌<◌, ◌≤◌, Bool, true, false, cond, ◌||◌, List, length, Some, None, Option, ◌==◌, nat_le, nat_lt, refl}
 use Rattle.std.proofs.Common.{ap, ◌∙◌, arith}
 use Rattle.std.proofs.lemmas.Bool.{or_parts, ltb-false, leb-false}
 use Rattle.space.specs.declared.parts.Mapping.{Mapping}
 use Rattle.space.specs.Meaning.{Sound}
 use Rattle.space.specs.Memory.{Bytes}
-use Rattle.space.specs.Frames.{allowed, Owned, booked_sound}
+use Rattle.space.specs.Frames.{Pool, allowed, Owned, Booked, booked_sound}
 use Rattle.sv39.specs.declared.figures.Figures.{Figures}
 use Rattle.sv39.specs.Entries.{rights_in, pointer, leaf}
 use Rattle.sv39.specs.Tables.{first, count, bottom, origin, word, slot, frame_in, mapping_in, page_at, meant, place}
@@ -29,6 +29,17 @@ Fine g total e = (e ≡ leaf (origin g + frame_in g e) (rights_in e)) × (frame_
 -- Each entry of the leaf tables that is not 0 is such a leaf.
 abbrev pub Filled : Figures → ℕ → List ℕ → Type 0
 Filled g total memory = (j : ℕ) → (j < count g) × (0 < slot memory j) → Fine g total (slot memory j)
+
+-- All that always holds of the figures, the memory and the bookkeeping of the frames.
+pub record Kept (g : Figures) (memory : List ℕ) (x : Pool) : Type 0 where
+  pub window : g.gigabyte ≤ 255
+  pub high : g.leaves ≤ 512
+  pub aligned : g.base % 4096 ≡ 0
+  pub whole : Whole g x.total (length memory)
+  pub rooted : Rooted g memory
+  pub middled : Middled g memory
+  pub filled : Filled g x.total memory
+  pub booked : Booked (first g) (count g) (page_at g memory) x
 
 none_some : {A : Type 0} {x : A} → ◌≡◌ {A = Option A} None (Some x) → ⊥
 none_some e = let z : ◌≡◌ {A = ℕ} 0 1 = cc in omega arith

@@ -5,3 +5,4 @@ pub mod Writes
 pub mod Setup
 pub mod Invariants
 pub mod Examples
+pub mod Spaces

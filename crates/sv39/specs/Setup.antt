@@ -1,35 +1,21 @@
--- The set-up of a space in Sv39 tables. Assumes nothing.
-use Rattle.std.specs.Prelude.{◌≡◌, ℕ, ◌+◌, ◌-◌, ◌*◌, ◌/◌, ◌%◌, ◌^◌, ◌<◌, ◌≤◌, List, [], ◌∷◌, length, Result, MatchResult, slice_index}
+-- The figures of a set-up, and copies of the memory. Assumes nothing.
+use Rattle.std.specs.Prelude.{◌≡◌, ℕ, ◌+◌, ◌/◌, ◌%◌, ◌^◌, ◌<◌, ◌≤◌, List, [], ◌∷◌, length, Result, MatchResult, slice_index}
 use Rattle.faults.specs.Rules.{Rule, single, First, AllClear}
 use Rattle.faults.specs.declared.fault.Fault.{Fault}
 use Rattle.faults.specs.declared.fault.Reason.TheVariants.{OutputLength}
 use Rattle.faults.specs.declared.fault.Layer.TheVariants.{Space}
-use Rattle.space.specs.Setups.{WholeFrames, Window, Roomy, Empty}
-use Rattle.space.specs.Meaning.{Meaning}
+use Rattle.space.specs.Setups.{WholeFrames, Window, Roomy}
 use Rattle.sv39.specs.declared.figures.Figures.{Figures}
-use Rattle.sv39.specs.Tables.{Tables}
 
--- The figures that a set-up takes: the memory's bytes, its physical address, the gigabyte, the leaf tables, the entries of the buffer for frames.
+-- The figures that a set-up takes, of so many bytes of memory and so many entries of the buffer for frames.
 -- There is memory for the tables, it begins at a whole page and ends by 2^56.
-pub record LawfulFigures (bytes base gigabyte leaves entries : ℕ) : Type 0 where
+pub record LawfulFigures (bytes : ℕ) (g : Figures) (entries : ℕ) : Type 0 where
   pub whole : WholeFrames bytes
-  pub window : Window gigabyte leaves
+  pub window : Window g.gigabyte g.leaves
   pub room : Roomy bytes entries
-  pub tables : leaves + 2 ≤ bytes / 4096
-  pub aligned : base % 4096 ≡ 0
-  pub reach : base + bytes ≤ 2 ^ 56
-
--- What is made of lawful figures: the window, a frame for each page of memory behind the tables, no page mapped, and the tables of that.
-pub record Made (bytes p gigabyte leaves : ℕ) (g : Figures) (m : Meaning) (memory : List ℕ) : Type 0 where
-  pub figures : g ≡ record { base = p; gigabyte = gigabyte; leaves = leaves }
-  pub empty : Empty (262144 * gigabyte) (512 * leaves) (bytes / 4096 - (leaves + 2)) m
-  pub tables : Tables g memory m.page
-
--- What is made of other figures: a space without pages and frames. Memory and buffer are as they were.
-pub record Unmade (m : Meaning) (xs ys es fs : List ℕ) : Type 0 where
-  pub empty : Empty 0 0 0 m
-  pub memory : ys ≡ xs
-  pub entries : fs ≡ es
+  pub tables : g.leaves + 2 ≤ bytes / 4096
+  pub aligned : g.base % 4096 ≡ 0
+  pub reach : g.base + bytes ≤ 2 ^ 56
 
 -- The bytes xs stand at the start of the buffer; the rest of it is as it was.
 pub record Copied (xs out after : List ℕ) : Type 0 where

@@ -1,11 +1,11 @@
 // Tables in lent memory.
 ghost use Rattle.std.specs.Prelude.{◌≡◌, ◌+◌, ◌*◌, ◌^◌, ◌<◌, ◌≤◌, length, slice_set};
 ghost use Rattle.space.specs.Memory.{Bytes, Zeroed};
-ghost use Rattle.sv39.specs.Setup.{Copied};
-ghost use Rattle.sv39.specs.Tables.{word};
+ghost use Rattle.sv39.specs.Tables.{bottom, word};
 ghost use Rattle.sv39.specs.Writes.{Written, Built};
 
 use crate::entry::pointer_to;
+use crate::figures::Figures;
 use crate::walk::u64_at;
 use space::memory::wipe;
 
@@ -30,12 +30,7 @@ impl<'a> Tables<'a> {
         requires { 8 * k + 8 ≤ length self.old.memory.now }
         ensures { Written k value self.old.memory.now self.new.memory.now }
     {
-        let at = 8 * k;
-        let mut left = value;
-        for i in 0..8 {
-            self.memory[at + i] = (left % 256) as u8;
-            left /= 256;
-        }
+        self.memory[8 * k..8 * k + 8].copy_from_slice(&value.to_le_bytes());
     }
 
     // Makes n bytes zero.
@@ -46,18 +41,20 @@ impl<'a> Tables<'a> {
         wipe(self.memory, at, n);
     }
 
-    // Makes the tables: the root's entry `gigabyte` points to the middle table, and that to the leaf tables. `page` is the root's physical page.
-    pub(crate) fn build(&mut self, page: u64, gigabyte: u32, leaves: u32)
-        requires held { (leaves + 2) * 4096 ≤ length self.old.memory.now }
-        requires window { gigabyte < 512 }
-        requires high { leaves ≤ 512 }
-        requires reach { page + 2 + leaves ≤ 2 ^ 44 }
-        ensures { Built page gigabyte leaves leaves self.old.memory.now self.new.memory.now }
+    // Makes the tables: the root's entry for the gigabyte points to the middle table, and that to the leaf tables.
+    pub(crate) fn build(&mut self, figures: Figures)
+        requires held { (figures.leaves + 2) * 4096 ≤ length self.old.memory.now }
+        requires window { figures.gigabyte < 512 }
+        requires high { figures.leaves ≤ 512 }
+        requires reach { bottom figures + 2 + figures.leaves ≤ 2 ^ 44 }
+        ensures { Built figures figures.leaves self.old.memory.now self.new.memory.now }
     {
-        self.zero(0, (leaves as usize + 2) * 4096);
-        self.set_entry(gigabyte as usize, pointer_to(page + 1));
-        for i in 0..leaves {
-            self.set_entry(512 + i as usize, pointer_to(page + 2 + i as u64));
+        let page = figures.bottom();
+        self.zero(0, (figures.leaves as usize + 2) * 4096);
+        self.set_entry(figures.gigabyte as usize, pointer_to(page + 1));
+        // By number: what chunks_exact_mut lends is not known to a proof after the write.
+        for i in 0..figures.leaves {
+            self.set_entry(512 + i as usize, pointer_to(page + 2 + u64::from(i)));
         }
     }
 
@@ -67,15 +64,5 @@ impl<'a> Tables<'a> {
         ensures { self.new.memory.now ≡ slice_set self.old.memory.now at byte }
     {
         self.memory[at] = byte;
-    }
-}
-
-// Copies all bytes to the start of a buffer.
-pub(crate) fn copy_into(from: &[u8], out: &mut [u8])
-    requires { length from.now ≤ length out.old }
-    ensures { Copied from.now out.old out.new }
-{
-    for (i, byte) in from.iter().enumerate() {
-        out[i] = *byte;
     }
 }

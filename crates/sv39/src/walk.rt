@@ -1,37 +1,18 @@
 // The walk of an address through page tables in memory.
-ghost use Rattle.std.specs.Prelude.{◌≡◌, ◌+◌, ◌^◌, ◌<◌, ◌≤◌, length};
+ghost use Rattle.std.specs.Prelude.{◌≡◌, ◌+◌, ◌-◌, ◌*◌, ◌<◌, ◌≤◌, length, MatchOption};
 ghost use Rattle.sv39.specs.Entries.{Says};
-ghost use Rattle.sv39.specs.Walks.{le, Finds, Ends};
+ghost use Rattle.sv39.specs.Walks.{le, Inside, Finds, Ends};
 
 use crate::entry::{Entry, Leaf, Walk, is_malformed, is_pointing, page_in, rights_in};
 
-pub(crate) fn u64_at(memory: &[u8], at: usize) -> u64
-    requires { at + 8 ≤ length memory.now }
-    ensures { result ≡ le memory.now at 8 }
+// The eight bytes from a place on as a number, lowest byte first.
+pub(crate) fn u64_at(bytes: &[u8], at: usize) -> u64
+    requires { at + 8 ≤ length bytes.now }
+    ensures { result ≡ le bytes.now at 8 }
 {
-    u64::from_le_bytes([
-        memory[at],
-        memory[at + 1],
-        memory[at + 2],
-        memory[at + 3],
-        memory[at + 4],
-        memory[at + 5],
-        memory[at + 6],
-        memory[at + 7],
-    ])
-}
-
-// How many pages a leaf of a level covers.
-pub(crate) fn span(level: u32) -> u64
-    requires { level < 3 }
-    ensures value { result ≡ 512 ^ level }
-    ensures some { 0 < result }
-{
-    match level {
-        0 => 1,
-        1 => 512,
-        _ => 262_144,
-    }
+    let mut word = [0; 8];
+    word.copy_from_slice(&bytes[at..at + 8]);
+    u64::from_le_bytes(word)
 }
 
 // What an entry of a level says.
@@ -49,7 +30,7 @@ pub(crate) fn read_entry(entry: u64, level: u32) -> Entry
     if is_pointing(entry) {
         return Entry::Table(page);
     }
-    if page % span(level) != 0 {
+    if page % 512u64.pow(level) != 0 {
         return Entry::Invalid;
     }
     Entry::Leaf(Leaf {
@@ -58,17 +39,35 @@ pub(crate) fn read_entry(entry: u64, level: u32) -> Entry
     })
 }
 
-// What the walk of an address finds in the table of a level.
-pub(crate) fn find(memory: &[u8], base: u64, address: u64, level: u32, table: u64) -> Entry
-    requires { level < 3 }
-    ensures { Finds memory.now base address level table result }
-{
-    let length = memory.len() as u64;
-    if table < base || length < 4096 || table - base > length - 4096 {
-        return Entry::Invalid;
+// The memory that a walk reads, and the physical address of its first byte.
+#[derive(Clone, Copy)]
+struct PhysicalMemory<'a> {
+    bytes: &'a [u8],
+    base: u64,
+}
+
+impl<'a> PhysicalMemory<'a> {
+    // An entry of the table at a physical address, where the table lies in the memory.
+    fn entry(&self, table: u64, index: usize) -> Option<u64>
+        requires { index < 512 }
+        ensures { MatchOption result (Inside self.now.bytes.now self.now.base table → ⊥) (λ e. Inside self.now.bytes.now self.now.base table × (e ≡ le self.now.bytes.now (table - self.now.base + 8 * index) 8)) }
+    {
+        let start = table.checked_sub(self.base)? as usize;
+        let entries = self.bytes.get(start..)?.get(..4096)?;
+        Some(u64_at(entries, 8 * index))
     }
-    let index = (address >> (12 + 9 * level)) % 512;
-    read_entry(u64_at(memory, (table - base + 8 * index) as usize), level)
+
+    // What the walk of an address finds in the table of a level.
+    fn find(&self, address: u64, level: u32, table: u64) -> Entry
+        requires { level < 3 }
+        ensures { Finds self.now.bytes.now self.now.base address level table result }
+    {
+        let index = (address >> (12 + 9 * level)) % 512;
+        match self.entry(table, index as usize) {
+            Some(entry) => read_entry(entry, level),
+            None => Entry::Invalid,
+        }
+    }
 }
 
 // The walk of an address from the root table, with which the memory begins. The memory lies at the physical address `base`.
@@ -78,11 +77,13 @@ pub fn walk(memory: &[u8], base: u64, address: u64) -> Walk
     if address >= 1 << 39 {
         return Walk::Fault;
     }
+    let memory = PhysicalMemory {
+        bytes: memory,
+        base,
+    };
     let mut table = base;
-    let mut level: u32 = 3;
-    while level > 0 {
-        level -= 1;
-        match find(memory, base, address, level, table) {
+    for level in (0..3).rev() {
+        match memory.find(address, level, table) {
             Entry::Zero => return Walk::Empty(level),
             Entry::Invalid => return Walk::Fault,
             Entry::Leaf(leaf) => return Walk::Reached(level, leaf),

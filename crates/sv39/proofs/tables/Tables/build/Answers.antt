@@ -1,30 +1,21 @@
-use Rattle.std.proofs.Common.{◌≡◌, ◌+◌, ap, ◌∙◌, subst, mod-eq_of_lt, arith}
-use Rattle.space.proofs.Writes.{apart_both}
+use Rattle.std.proofs.Common.{◌≡◌, ◌+◌, ◌%◌, ◌^◌, ap, ◌∙◌, subst, arith}
 use Rattle.sv39.specs.Entries.{pointer}
-use Rattle.sv39.specs.Writes.{Written, Built}
-use Rattle.sv39.proofs.Builds.{built_none, built_more, built_from, apart_self, apart_then}
+use Rattle.sv39.specs.Tables.{bottom}
+use Rattle.sv39.specs.Writes.{Written}
+use Rattle.sv39.proofs.Builds.{built_none, built_more}
 use Rattle.sv39.proofs.tables.Tables.build.Goals as goal
 
 pub loop-i-init : goal.loop-i-init
 loop-i-init c =
-    let e = c.pointer_to.ensures ∙ ap pointer (mod-eq_of_lt (omega (arith, c.requires.reach))) in
-    let w = subst (λ x. Written c.args.gigabyte x c.zero.new.self.memory.now c.set_entry.new.self.memory.now) e c.set_entry.ensures in
-    built_from _ _ _ _ _ _ _ (apart_self _ _) (built_none c.args.page c.args.gigabyte c.args.leaves _ _ _ c.requires.window c.zero.ensures w)
+    let e = c.pointer_to.ensures ∙ ap pointer (let d : (c.bottom-page.result + 1) % 2 ^ 44 ≡ bottom c.args.figures + 1 = omega (arith, c.requires.reach) in d) in
+    let w = subst (λ x. Written c.args.figures.gigabyte x c.zero.new.self.memory.now c.set_entry.new.self.memory.now) e c.set_entry.ensures in
+    built_none c.args.figures _ _ _ c.requires.window c.zero.ensures w
 
 pub set_entry-requires-in-loop-i : goal.set_entry-requires-in-loop-i
-set_entry-requires-in-loop-i c =
-    omega (arith, c.loop-i.invariant.apart.long, c.zero.ensures.apart.long, c.set_entry.ensures.apart.long, c.requires.held, c.requires.high)
+set_entry-requires-in-loop-i c = omega (arith, c.loop-i.invariant.apart.long, c.requires.held, c.requires.high)
 
 pub loop-i-preserved : goal.loop-i-preserved
 loop-i-preserved c =
-    let e = c.pointer_to-in-loop-i.ensures ∙ ap pointer (mod-eq_of_lt (omega (arith, c.requires.reach))) in
+    let e = c.pointer_to-in-loop-i.ensures ∙ ap pointer (let d : (c.bottom-page.result + 2 + c.from.result) % 2 ^ 44 ≡ bottom c.args.figures + 2 + c.loop-i.i = omega (arith, c.requires.reach) in d) in
     let w = subst (λ x. Written (512 + c.loop-i.i) x c.loop-i.self.memory.now c.set_entry-in-loop-i.new.self.memory.now) e c.set_entry-in-loop-i.ensures in
-    built_more _ _ _ _ _ _ _ (omega arith) c.requires.high c.loop-i.invariant w
-
-pub returns : goal.returns
-returns c =
-    let v = c.loop-i.invariant in
-    let e : c.loop-i.i ≡ c.args.leaves = omega arith in
-    let a = apart_then c.zero.ensures.apart c.set_entry.ensures (omega (arith, c.requires.window)) in
-    subst (λ n. Built c.args.page c.args.gigabyte c.args.leaves n c.args.self.now.memory.now c.loop-i.self.memory.now) e
-    (built_from _ _ _ _ _ _ _ (apart_both a v.apart) v)
+    built_more c.args.figures _ _ _ _ (omega arith) c.requires.high c.loop-i.invariant w
