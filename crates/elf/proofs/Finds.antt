@@ -13,7 +13,7 @@ use Rattle.faults.specs.Rules.{Checked}
 use Rattle.faults.specs.declared.fault.Fault.{Fault}
 use Rattle.faults.specs.declared.fault.Reason.{Reason}
 use Rattle.faults.specs.declared.fault.Layer.TheVariants.{Open}
-use Rattle.elf.specs.Searches.{Lowest, FirstOf}
+use Rattle.elf.specs.Searches.{FirstOf}
 use Rattle.elf.specs.Segments.{on_each, offset_in}
 use Rattle.elf.specs.declared.records.Table.{Table}
 

@@ -8,13 +8,13 @@ use Rattle.faults.specs.declared.fault.Reason.TheVariants.{DynamicExtent}
 use Rattle.elf.specs.Layouts.{Sound}
 use Rattle.elf.specs.Searches.{SomeBelow, Lowest}
 use Rattle.elf.specs.Segments.{file_type, phnum, header, headers, on_each}
-use Rattle.elf.specs.Stages.{Inside, Bounded, Extended, Listed}
+use Rattle.elf.specs.Stages.{Inside, Bounded, Extended}
 use Rattle.elf.specs.Dynamic.{IsDynamic, OtherDynamic, BadExtent, BadDynamic, has_dynamic, dynamic_header, entry_in, entries, none, tagged, Stands, Described, value_of, rela, relasz, HoldsFileBytes, BadTable, table_segment, has_table, relocation_table}
 use Rattle.elf.specs.declared.layout.Layout.{Layout}
 use Rattle.elf.specs.declared.records.ProgramHeader.{ProgramHeader}
 use Rattle.elf.specs.declared.records.Table.{Table}
 use Rattle.elf.proofs.Lowests.{lowest_is, lowest_found, lowest_none}
-use Rattle.elf.proofs.Dynamics.{reaches, word_small, entries_none}
+use Rattle.elf.proofs.Dynamics.{entries_none}
 
 module _ (l : Layout) (bytes : List ℕ) where
   -- The entry that the search for a tag finds.
@@ -225,14 +225,11 @@ module _ (l : Layout) (bytes : List ℕ) where
             (subst (λ (t : Table). Inside t bytes) e inside, sym (ap (λ (t : Table). t.size) e))
       ]
 
-  -- What a scan of the relocations needs.
-  pub relocations_ready : (t : Table) → t ≡ relocation_table l bytes → Extended l bytes → ((i : ℕ) → i < t.count → Listed l bytes l.relocation t i) × (t.first + t.size * 2 ^ 32 ≤ 2 ^ 64)
-  relocations_ready t e x =
+  -- The same of a table that is known to be the relocation table.
+  pub relocations_whole : (t : Table) → t ≡ relocation_table l bytes → Extended l bytes → Inside t bytes × (t.size ≡ l.relocation)
+  relocations_whole t e x =
       let whole = relocations_inside x in
-      let r = x.bounded.readable in
-      let inside : Inside t bytes = subst (λ (s : Table). Inside s bytes) (sym e) whole.0 in
-      let size : t.size ≡ l.relocation = ap (λ (s : Table). s.size) e ∙ whole.1 in
-      (λ i within. record { readable = r; size = size; inside = inside; within = within }, reaches l bytes r t inside (omega (arith, size, r.headed.sound.relocation, word_small l bytes r.headed.sound)))
+      (subst (λ (s : Table). Inside s bytes) (sym e) whole.0, ap (λ (s : Table). s.size) e ∙ whole.1)
 
   -- No more relocations than the limit, where the rule on the relocation table is clear.
   pub relocations_few : Sound l → (BadTable l bytes → ⊥) → (relocation_table l bytes).count ≤ l.limits.relocations

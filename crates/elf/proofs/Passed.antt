@@ -11,9 +11,9 @@ use Rattle.elf.specs.declared.layout.Layout.{Layout}
 use Rattle.elf.proofs.Known.{headed, readable, bounded}
 use Rattle.elf.proofs.Located.{extended}
 
--- What holds of a layout and bytes holds of those that are the same.
-pub carried : (P : Layout → List ℕ → Type 0) {l m : Layout} {b c : List ℕ} → l ≡ m → b ≡ c → P l b → P m c
-carried P {l = l} {m = m} {b = b} {c = c} e f p = subst (λ x. P x c) e (subst (P l) f p)
+-- What holds of two things holds of those that they equal.
+pub carried : {A B : Type 0} (P : A → B → Type 0) {x y : A} {v w : B} → x ≡ y → v ≡ w → P x v → P y w
+carried P {x = x} {w = w} e f p = subst (λ a. P a w) e (subst (P x) f p)
 
 module _ (l : Layout) (b : List ℕ) where
   pub knows_header : Sound l → AllClear (identity_rules l b) → Headed l b

@@ -11,8 +11,9 @@ use crate::bytes::u16_at;
 use crate::identity::refusal;
 use crate::kinds::{FileType, HeaderType, Tag};
 use crate::records::{DynamicEntry, ProgramHeader, Table};
-use crate::stages::{Dynamics, Headers};
+use crate::stages::{Dynamics, Headers, Records};
 use faults::fault::{Fault, Reason};
+use std::marker::PhantomData;
 
 impl<'a> Headers<'a> {
     fn is_independent(&self) -> bool
@@ -84,53 +85,51 @@ impl<'a> Headers<'a> {
 
 impl<'a> Dynamics<'a> {
     // The entries that the dynamic header has room for.
-    fn table(&self, i: u32) -> Table
+    fn table(&self, i: u32) -> Records<'a, DynamicEntry>
         requires { (has_dynamic self.now.headers.layout self.now.headers.bytes.now ≡ true) × (i ≡ dynamic_header self.now.headers.layout self.now.headers.bytes.now) }
-        ensures { result ≡ dynamic_table self.now.headers.layout self.now.headers.bytes.now }
+        ensures same { result.headers ≡ self.now.headers }
+        ensures table { result.table ≡ dynamic_table self.now.headers.layout self.now.headers.bytes.now }
     {
         let h = self.headers.get(i);
         let size = self.headers.layout.dynamic as u64;
-        Table {
-            first: h.offset,
-            size,
-            count: (h.filesz / size) as u32,
+        Records {
+            headers: self.headers,
+            table: Table {
+                first: h.offset,
+                size,
+                count: (h.filesz / size) as u32,
+            },
+            kind: PhantomData,
         }
     }
 
-    // The entry `i` of a table.
-    pub(crate) fn entry(&self, table: Table, i: u32) -> DynamicEntry
-        requires { Listed self.now.headers.layout self.now.headers.bytes.now self.now.headers.layout.dynamic table i }
-        ensures { result ≡ entry_in self.now.headers.layout self.now.headers.bytes.now table i }
-    {
-        self.headers.record(table, i)
-    }
-
-    // The first of the first `n` entries of a table that has a tag.
-    pub(crate) fn tagged(&self, table: Table, n: u32, tag: u64) -> Option<u32>
-        requires { (i : ℕ) → i < n → Listed self.now.headers.layout self.now.headers.bytes.now self.now.headers.layout.dynamic table i }
-        ensures { FirstOf n (λ i. (entry_in self.now.headers.layout self.now.headers.bytes.now table i).tag ≡ tag) result }
-    {
-        (0..n).find(|i| self.entry(table, *i).tag == tag)
-    }
-
     // The entries that are read: those before the first of tag 0.
-    pub(crate) fn entries(&self) -> Table
-        ensures { result ≡ entries self.now.headers.layout self.now.headers.bytes.now }
+    pub(crate) fn entries(&self) -> Records<'a, DynamicEntry>
+        ensures same { result.headers ≡ self.now.headers }
+        ensures table { result.table ≡ entries self.now.headers.layout self.now.headers.bytes.now }
     {
         let size = self.headers.layout.dynamic as u64;
         let Some(i) = self.headers.dynamic_header() else {
-            return Table {
-                first: 0,
-                size,
-                count: 0,
+            return Records {
+                headers: self.headers,
+                table: Table {
+                    first: 0,
+                    size,
+                    count: 0,
+                },
+                kind: PhantomData,
             };
         };
-        let table = self.table(i);
-        let end = self.tagged(table, table.count, Tag::Null.number());
-        Table {
-            first: table.first,
-            size,
-            count: end.unwrap_or(table.count),
+        let all = self.table(i);
+        let end = all.tagged(all.table.count, Tag::Null.number());
+        Records {
+            headers: self.headers,
+            table: Table {
+                first: all.table.first,
+                size,
+                count: end.unwrap_or(all.table.count),
+            },
+            kind: PhantomData,
         }
     }
 
@@ -149,7 +148,7 @@ impl<'a> Dynamics<'a> {
         let Some(i) = self.headers.dynamic_header() else {
             return false;
         };
-        self.entries().count == self.table(i).count
+        self.entries().table.count == self.table(i).table.count
     }
 
     pub(crate) fn check_end(&self) -> Result<(), Fault>
@@ -164,27 +163,41 @@ impl<'a> Dynamics<'a> {
         Ok(())
     }
 
-    // Whether the entry `i` of a table has a tag that the loader does not take, or repeats one.
-    fn is_bad_tag(&self, table: Table, i: u32) -> bool
-        requires { Listed self.now.headers.layout self.now.headers.bytes.now self.now.headers.layout.dynamic table i }
-        ensures { Decides result (BadTag self.now.headers.layout self.now.headers.bytes.now table i) }
-    {
-        let entry = self.entry(table, i);
-        is_barred(&entry) || describes_table(&entry) && self.tagged(table, i, entry.tag).is_some()
-    }
-
     pub(crate) fn check_tags(&self) -> Result<(), Fault>
         ensures { Checked (on_each DynamicTag (entries self.now.headers.layout self.now.headers.bytes.now) (BadTag self.now.headers.layout self.now.headers.bytes.now (entries self.now.headers.layout self.now.headers.bytes.now))) result }
     {
-        let table = self.entries();
-        table.refuse(Reason::DynamicTag, self.bad_tag(table))
+        self.entries().check()
+    }
+}
+
+impl<'a> Records<'a, DynamicEntry> {
+    // The first of the first `n` entries that has a tag.
+    pub(crate) fn tagged(&self, n: u32, tag: u64) -> Option<u32>
+        requires { n ≤ self.now.table.count }
+        ensures { FirstOf n (λ i. (entry_in self.now.headers.layout self.now.headers.bytes.now self.now.table i).tag ≡ tag) result }
+    {
+        (0..n).find(|i| self.get(*i).tag == tag)
     }
 
-    fn bad_tag(&self, table: Table) -> Option<u32>
-        requires { (i : ℕ) → i < table.count → Listed self.now.headers.layout self.now.headers.bytes.now self.now.headers.layout.dynamic table i }
-        ensures { FirstOf table.count (BadTag self.now.headers.layout self.now.headers.bytes.now table) result }
+    // Whether the entry `i` has a tag that the loader does not take, or repeats one.
+    fn is_bad_tag(&self, i: u32) -> bool
+        requires { i < self.now.table.count }
+        ensures { Decides result (BadTag self.now.headers.layout self.now.headers.bytes.now self.now.table i) }
     {
-        (0..table.count).find(|i| self.is_bad_tag(table, *i))
+        let entry = self.get(i);
+        is_barred(&entry) || describes_table(&entry) && self.tagged(i, entry.tag).is_some()
+    }
+
+    fn bad_tag(&self) -> Option<u32>
+        ensures { FirstOf self.now.table.count (BadTag self.now.headers.layout self.now.headers.bytes.now self.now.table) result }
+    {
+        (0..self.table.count).find(|i| self.is_bad_tag(*i))
+    }
+
+    fn check(&self) -> Result<(), Fault>
+        ensures { Checked (on_each DynamicTag self.now.table (BadTag self.now.headers.layout self.now.headers.bytes.now self.now.table)) result }
+    {
+        self.refuse(Reason::DynamicTag, self.bad_tag())
     }
 }
 

@@ -1,16 +1,13 @@
 // The records of an ELF file, each read from the file's bytes.
-ghost use Rattle.std.specs.Prelude.{◌≡◌, ℕ, ◌+◌, ◌*◌, ◌^◌, ◌<◌, ◌≤◌, ◌⊎◌, List, length, MatchOption, Ok, Err};
-ghost use Rattle.faults.specs.declared.fault.Layer.TheVariants.{Open};
+ghost use Rattle.std.specs.Prelude.{◌≡◌, ℕ, ◌+◌, ◌*◌, ◌^◌, ◌<◌, ◌≤◌, ◌⊎◌, List, length, MatchOption};
 ghost use Rattle.elf.specs.Layouts.{Sound};
 ghost use Rattle.elf.specs.Bytes.{le};
 ghost use Rattle.elf.specs.Records.{file_header, header_at, entry_at, relocation_at, signed};
-ghost use Rattle.elf.specs.Segments.{offset_in};
-ghost use Rattle.elf.specs.Props.{layout_props};
+ghost use Rattle.elf.specs.Props.{layout_props, entry_small, relocation_small};
 ghost use Rattle.elf.specs.declared.layout.Layout.{Layout as Shape};
 
 use crate::bytes::{u16_at, u32_at, u64_at, word_at};
 use crate::layout::Layout;
-use faults::fault::{Fault, Layer, Reason};
 
 // The fields of the file header behind its identification.
 #[derive(Clone, Copy)]
@@ -77,7 +74,7 @@ pub(crate) fn file_header(l: Layout, file: &[u8]) -> FileHeader
 }
 
 // A record of one of a file's tables: how many bytes it has in a layout, and how it is read from them.
-pub(crate) trait Record: Sized {
+pub(crate) trait Record: Copy {
     ghost width: { Shape → ℕ };
 
     ghost reads: { Shape → List ℕ → ℕ → Self };
@@ -85,6 +82,9 @@ pub(crate) trait Record: Sized {
     fn read(l: Layout, file: &[u8], at: usize) -> Self
         requires { (Sound l) × (at + width l ≤ length file.now) }
         ensures { result ≡ reads l file.now at };
+
+    // A record is small.
+    ghost small: { (l : Shape) → Sound l → width l ≤ 64 };
 }
 
 impl Record for ProgramHeader {
@@ -103,6 +103,8 @@ impl Record for ProgramHeader {
             align: word_at(file, at + l.header.align, l.word),
         }
     }
+
+    ghost small = { λ l sound. sound.small };
 }
 
 impl Record for DynamicEntry {
@@ -116,6 +118,8 @@ impl Record for DynamicEntry {
             value: word_at(file, at + l.word, l.word),
         }
     }
+
+    ghost small = { λ l sound. entry_small l sound };
 }
 
 // A number of an address's width, read as a signed one.
@@ -145,6 +149,8 @@ impl Record for Relocation {
             addend: signed_at(file, at + 2 * l.word, l.word),
         }
     }
+
+    ghost small = { λ l sound. relocation_small l sound };
 }
 
 // Reads one program header after the other.
@@ -177,23 +183,5 @@ impl<'a> HeaderReader<'a> {
         }
         self.at = end as u64;
         Some(ProgramHeader::read(self.layout, self.file, at))
-    }
-}
-
-impl Table {
-    // The refusal of a file for the record that a search among the table's has found.
-    pub(crate) fn refuse(&self, reason: Reason, found: Option<u32>) -> Result<(), Fault>
-        requires { self.now.first + self.now.size * 2 ^ 32 ≤ 2 ^ 64 }
-        ensures { MatchOption found (result ≡ Ok tt) (λ i. result ≡ Err (record { reason = reason; layer = Open; «record» = i; place = offset_in self.now i })) }
-    {
-        let Some(i) = found else {
-            return Ok(());
-        };
-        Err(Fault {
-            reason,
-            layer: Layer::Open,
-            record: i,
-            place: self.first + self.size * i as u64,
-        })
     }
 }

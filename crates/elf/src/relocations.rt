@@ -1,5 +1,5 @@
 // The rules on the relocations.
-ghost use Rattle.std.specs.Prelude.{◌≡◌, ℕ, ◌+◌, ◌*◌, ◌<◌, ◌≤◌, Decides};
+ghost use Rattle.std.specs.Prelude.{◌≡◌, ℕ, ◌+◌, ◌*◌, ◌<◌, ◌≤◌, Decides, [], ◌∷◌};
 ghost use Rattle.faults.specs.Rules.{Checked, Tried};
 ghost use Rattle.faults.specs.declared.fault.Reason.TheVariants.{RelocationType as WrongType, RelocationTarget};
 ghost use Rattle.elf.specs.Segments.{on_each, phnum};
@@ -8,9 +8,10 @@ ghost use Rattle.elf.specs.Stages.{Listed};
 ghost use Rattle.elf.specs.Dynamic.{relocation_in, relocation_table, BadKind, BadTarget, Writable, relocation_rules};
 
 use crate::kinds::{HeaderType, RelocationType};
-use crate::records::{Relocation, Table};
-use crate::stages::{Dynamics, Headers};
+use crate::records::Relocation;
+use crate::stages::{Dynamics, Headers, Records};
 use faults::fault::{Fault, Reason};
+use std::marker::PhantomData;
 
 impl<'a> Headers<'a> {
     // Whether the memory of the writable segment `i` holds the word at an address.
@@ -27,75 +28,72 @@ impl<'a> Headers<'a> {
             && address - h.vaddr <= h.memsz - word
     }
 
-    // The relocation `i` of a table.
-    pub(crate) fn relocation(&self, table: Table, i: u32) -> Relocation
-        requires { Listed self.now.layout self.now.bytes.now self.now.layout.relocation table i }
-        ensures { result ≡ relocation_in self.now.layout self.now.bytes.now table i }
-    {
-        self.record(table, i)
-    }
-
-    fn has_bad_kind(&self, table: Table, i: u32) -> bool
-        requires { Listed self.now.layout self.now.bytes.now self.now.layout.relocation table i }
-        ensures { Decides result (BadKind self.now.layout self.now.bytes.now table i) }
-    {
-        let r = self.relocation(table, i);
-        let relative = r.is(RelocationType::Relative);
-        !relative && !r.is(RelocationType::Nothing) || relative && r.symbol != 0
-    }
-
-    fn has_bad_target(&self, table: Table, i: u32) -> bool
-        requires { Listed self.now.layout self.now.bytes.now self.now.layout.relocation table i }
-        ensures { Decides result (BadTarget self.now.layout self.now.bytes.now table i) }
-    {
-        let r = self.relocation(table, i);
-        if !r.is(RelocationType::Relative) {
-            return false;
-        }
-        r.offset % self.layout.word as u64 != 0 || self.holding_word(r.offset).is_none()
-    }
-
     // The first writable segment whose memory holds the word at an address.
     fn holding_word(&self, address: u64) -> Option<u32>
         ensures { FirstOf (phnum self.now.layout self.now.bytes.now) (Writable self.now.layout self.now.bytes.now address) result }
     {
         (0..self.count()).find(|i| self.holds_word(*i, address))
     }
+}
 
-    fn bad_kind(&self, table: Table) -> Option<u32>
-        requires { (i : ℕ) → i < table.count → Listed self.now.layout self.now.bytes.now self.now.layout.relocation table i }
-        ensures { FirstOf table.count (BadKind self.now.layout self.now.bytes.now table) result }
+impl<'a> Records<'a, Relocation> {
+    fn has_bad_kind(&self, i: u32) -> bool
+        requires { i < self.now.table.count }
+        ensures { Decides result (BadKind self.now.headers.layout self.now.headers.bytes.now self.now.table i) }
     {
-        (0..table.count).find(|i| self.has_bad_kind(table, *i))
+        let r = self.get(i);
+        let relative = r.is(RelocationType::Relative);
+        !relative && !r.is(RelocationType::Nothing) || relative && r.symbol != 0
     }
 
-    fn bad_target(&self, table: Table) -> Option<u32>
-        requires { (i : ℕ) → i < table.count → Listed self.now.layout self.now.bytes.now self.now.layout.relocation table i }
-        ensures { FirstOf table.count (BadTarget self.now.layout self.now.bytes.now table) result }
+    fn has_bad_target(&self, i: u32) -> bool
+        requires { i < self.now.table.count }
+        ensures { Decides result (BadTarget self.now.headers.layout self.now.headers.bytes.now self.now.table i) }
     {
-        (0..table.count).find(|i| self.has_bad_target(table, *i))
+        let r = self.get(i);
+        if !r.is(RelocationType::Relative) {
+            return false;
+        }
+        r.offset % self.headers.layout.word as u64 != 0
+            || self.headers.holding_word(r.offset).is_none()
+    }
+
+    fn bad_kind(&self) -> Option<u32>
+        ensures { FirstOf self.now.table.count (BadKind self.now.headers.layout self.now.headers.bytes.now self.now.table) result }
+    {
+        (0..self.table.count).find(|i| self.has_bad_kind(*i))
+    }
+
+    fn bad_target(&self) -> Option<u32>
+        ensures { FirstOf self.now.table.count (BadTarget self.now.headers.layout self.now.headers.bytes.now self.now.table) result }
+    {
+        (0..self.table.count).find(|i| self.has_bad_target(*i))
+    }
+
+    // The rules on the relocations of the table.
+    fn check(&self) -> Result<(), Fault>
+        ensures { Tried (on_each WrongType self.now.table (BadKind self.now.headers.layout self.now.headers.bytes.now self.now.table) ∷ on_each RelocationTarget self.now.table (BadTarget self.now.headers.layout self.now.headers.bytes.now self.now.table) ∷ []) result }
+    {
+        self.refuse(Reason::RelocationType, self.bad_kind())?;
+        self.refuse(Reason::RelocationTarget, self.bad_target())
     }
 }
 
 impl<'a> Dynamics<'a> {
-    fn check_kinds(&self) -> Result<(), Fault>
-        ensures { Checked (on_each WrongType (relocation_table self.now.headers.layout self.now.headers.bytes.now) (BadKind self.now.headers.layout self.now.headers.bytes.now (relocation_table self.now.headers.layout self.now.headers.bytes.now))) result }
+    fn relocations(&self) -> Records<'a, Relocation>
+        ensures same { result.headers ≡ self.now.headers }
+        ensures table { result.table ≡ relocation_table self.now.headers.layout self.now.headers.bytes.now }
     {
-        let table = self.relocation_table();
-        table.refuse(Reason::RelocationType, self.headers.bad_kind(table))
-    }
-
-    fn check_targets(&self) -> Result<(), Fault>
-        ensures { Checked (on_each RelocationTarget (relocation_table self.now.headers.layout self.now.headers.bytes.now) (BadTarget self.now.headers.layout self.now.headers.bytes.now (relocation_table self.now.headers.layout self.now.headers.bytes.now))) result }
-    {
-        let table = self.relocation_table();
-        table.refuse(Reason::RelocationTarget, self.headers.bad_target(table))
+        Records {
+            headers: self.headers,
+            table: self.relocation_table(),
+            kind: PhantomData,
+        }
     }
 
     pub(crate) fn check_relocations(&self) -> Result<(), Fault>
         ensures { Tried (relocation_rules self.now.headers.layout self.now.headers.bytes.now) result }
     {
-        self.check_kinds()?;
-        self.check_targets()
+        self.relocations().check()
     }
 }

@@ -1,11 +1,10 @@
 // The checks of the program headers.
-ghost use Rattle.std.specs.Prelude.{◌≡◌, ℕ, ◌+◌, ◌*◌, ◌<◌, ◌≤◌, Decides, MatchOption, Ok, Err};
+ghost use Rattle.std.specs.Prelude.{◌≡◌, ℕ, ◌+◌, ◌*◌, ◌<◌, ◌≤◌, Decides, MatchOption};
 ghost use Rattle.faults.specs.Rules.{Checked, Tried};
 ghost use Rattle.faults.specs.declared.fault.Reason.TheVariants.{EntryPoint, Interpreter};
 ghost use Rattle.elf.specs.Searches.{SomeBelow, FirstOf, Highest};
-ghost use Rattle.faults.specs.declared.fault.Layer.TheVariants.{Open};
 ghost use Rattle.elf.specs.Kinds.{header_number};
-ghost use Rattle.elf.specs.Segments.{PowerOfTwo, Load, Interprets, BadSize, BadAlign, Misaligned, BadFlags, BadEnd, BadOrder, Executable, BadEntry, bad_load_count, segment_rules, once, on_each, offset_in, header, headers, phnum};
+ghost use Rattle.elf.specs.Segments.{PowerOfTwo, Load, Interprets, BadSize, BadAlign, Misaligned, BadFlags, BadEnd, BadOrder, Executable, BadEntry, bad_load_count, segment_rules, once, on_each, header, headers, phnum};
 
 use crate::bytes::word_at;
 use crate::identity::refusal;
@@ -54,13 +53,6 @@ impl<'a> Headers<'a> {
         ensures { MatchOption result (SomeBelow i (λ k. Load (header self.now.layout self.now.bytes.now k)) → ⊥) (Highest i (λ k. Load (header self.now.layout self.now.bytes.now k))) }
     {
         (0..i).rev().find(|j| self.is(*j, HeaderType::Load))
-    }
-
-    // The refusal of a file for the header that a search has found.
-    pub(crate) fn refuse(&self, reason: Reason, found: Option<u32>) -> Result<(), Fault>
-        ensures { MatchOption found (result ≡ Ok tt) (λ i. result ≡ Err (record { reason = reason; layer = Open; «record» = i; place = offset_in (headers self.now.layout self.now.bytes.now) i })) }
-    {
-        self.table().refuse(reason, found)
     }
 
     pub(crate) fn check_interpreter(&self) -> Result<(), Fault>

@@ -1,14 +1,17 @@
 // A file on its way through the rules: each type carries what the rules before have found.
-ghost use Rattle.std.specs.Prelude.{◌≡◌, ℕ, ◌<◌};
+ghost use Rattle.std.specs.Prelude.{◌≡◌, ℕ, ◌<◌, MatchOption, Ok, Err};
+ghost use Rattle.faults.specs.declared.fault.Layer.TheVariants.{Open};
 ghost use Rattle.elf.specs.Layouts.{Sound, elf64};
 ghost use Rattle.elf.specs.Segments.{header, headers, offset_in, phnum};
-ghost use Rattle.elf.specs.Stages.{Headed, Readable, Extended, Listed};
+ghost use Rattle.elf.specs.Stages.{Inside, Headed, Readable, Extended};
 ghost use Rattle.elf.specs.Props.{layout_props};
 
 use crate::bytes::{u16_at, word_at};
 use crate::kinds::HeaderType;
 use crate::layout::{ELF64, Layout};
 use crate::records::{ProgramHeader, Record, Table};
+use faults::fault::{Fault, Layer, Reason};
+use std::marker::PhantomData;
 
 // A file's bytes, and the layout by which they are read.
 #[derive(Clone, Copy)]
@@ -32,6 +35,16 @@ pub(crate) struct Headers<'a> {
     pub(crate) layout: Layout,
     pub(crate) bytes: &'a [u8],
     ghost readable: { Readable layout bytes.now } by { Prim.hlevel layout_props },
+}
+
+// A table of records that lies in the file, all of one kind.
+#[derive(Drop)]
+pub(crate) struct Records<'a, R: Record> {
+    pub(crate) headers: Headers<'a>,
+    pub(crate) table: Table,
+    pub(crate) kind: PhantomData<R>,
+    ghost size: { table.size ≡ R.width headers.layout },
+    ghost inside: { Inside table headers.bytes.now },
 }
 
 // A file whose dynamic table lies in it, if it has one.
@@ -71,13 +84,16 @@ impl<'a> Headers<'a> {
         }
     }
 
-    // The record `i` of a table.
-    pub(crate) fn record<R: Record>(&self, table: Table, i: u32) -> R
-        requires { Listed self.now.layout self.now.bytes.now (R.width self.now.layout) table i }
-        ensures { result ≡ R.reads self.now.layout self.now.bytes.now (offset_in table i) }
+    // The program headers as a table of records.
+    fn records(&self) -> Records<'a, ProgramHeader>
+        ensures same { result.headers ≡ self.now }
+        ensures table { result.table ≡ headers self.now.layout self.now.bytes.now }
     {
-        let at = table.first as usize + table.size as usize * i as usize;
-        R::read(self.layout, self.bytes, at)
+        Records {
+            headers: *self,
+            table: self.table(),
+            kind: PhantomData,
+        }
     }
 
     // The program header `i`.
@@ -85,6 +101,39 @@ impl<'a> Headers<'a> {
         requires { i < phnum self.now.layout self.now.bytes.now }
         ensures { result ≡ header self.now.layout self.now.bytes.now i }
     {
-        self.record(self.table(), i)
+        self.records().get(i)
+    }
+
+    // The refusal of a file for the header that a search has found.
+    pub(crate) fn refuse(&self, reason: Reason, found: Option<u32>) -> Result<(), Fault>
+        ensures { MatchOption found (result ≡ Ok tt) (λ i. result ≡ Err (record { reason = reason; layer = Open; «record» = i; place = offset_in (headers self.now.layout self.now.bytes.now) i })) }
+    {
+        self.records().refuse(reason, found)
+    }
+}
+
+impl<'a, R: Record> Records<'a, R> {
+    // The record `i`.
+    pub(crate) fn get(&self, i: u32) -> R
+        requires { i < self.now.table.count }
+        ensures { result ≡ R.reads self.now.headers.layout self.now.headers.bytes.now (offset_in self.now.table i) }
+    {
+        let at = self.table.first as usize + self.table.size as usize * i as usize;
+        R::read(self.headers.layout, self.headers.bytes, at)
+    }
+
+    // The refusal of a file for the record that a search has found.
+    pub(crate) fn refuse(&self, reason: Reason, found: Option<u32>) -> Result<(), Fault>
+        ensures { MatchOption found (result ≡ Ok tt) (λ i. result ≡ Err (record { reason = reason; layer = Open; «record» = i; place = offset_in self.now.table i })) }
+    {
+        let Some(i) = found else {
+            return Ok(());
+        };
+        Err(Fault {
+            reason,
+            layer: Layer::Open,
+            record: i,
+            place: self.table.first + self.table.size * i as u64,
+        })
     }
 }

@@ -68,9 +68,9 @@ impl<'a> Dynamics<'a> {
     fn value(&self, tag: Tag) -> Option<u64>
         ensures { MatchOption result (Stands self.now.headers.layout self.now.headers.bytes.now (tag_number tag) → ⊥) (λ v. Stands self.now.headers.layout self.now.headers.bytes.now (tag_number tag) × (v ≡ value_of self.now.headers.layout self.now.headers.bytes.now (tag_number tag))) }
     {
-        let table = self.entries();
-        let i = self.tagged(table, table.count, tag.number())?;
-        Some(self.entry(table, i).value)
+        let entries = self.entries();
+        let i = entries.tagged(entries.table.count, tag.number())?;
+        Some(entries.get(i).value)
     }
 
     fn has_bad_table(&self) -> bool
