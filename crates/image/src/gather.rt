@@ -5,15 +5,12 @@ ghost use Rattle.elf.specs.Segments.{phnum};
 ghost use Rattle.image.specs.Prescribed.{rights_of, segment_of, segments_of};
 ghost use Rattle.image.specs.Stages.{Laid, Gathered, listed};
 
+use crate::checked::Checked;
 use crate::ranges::PageRange;
 use crate::segments::{Segment, Segments};
-use elf::opened::Opened;
+use elf::kinds::HeaderType;
+use elf::layout::PAGE;
 use elf::records::ProgramHeader;
-
-// The type of a program header that describes a segment.
-const LOAD: u32 = 1;
-
-const PAGE: u64 = 4096;
 
 // No segment.
 const NONE: Segment = Segment {
@@ -80,30 +77,29 @@ impl Segments {
     }
 }
 
-// Adds the segment of the header `i`, if it is a load header.
-fn add(segments: &mut Segments, opened: &Opened, bias: u64, i: u32)
-    requires laid { Laid elf64 opened.now.file.now bias }
-    requires within { i < phnum elf64 opened.now.file.now }
-    requires so_far { Gathered elf64 opened.now.file.now bias i segments.old }
-    ensures { Gathered elf64 opened.now.file.now bias (i + 1) segments.new }
-{
-    let Some(h) = opened.header(i) else {
-        return;
-    };
-    if h.kind == LOAD {
-        segments.push(segment_of(bias, h));
+impl Checked<'_> {
+    // Adds the segment of the header `i`, if it is a load header.
+    fn add(&self, segments: &mut Segments, bias: u64, i: u32)
+        requires laid { Laid elf64 self.now.opened.file.now bias }
+        requires within { i < phnum elf64 self.now.opened.file.now }
+        requires so_far { Gathered elf64 self.now.opened.file.now bias i segments.old }
+        ensures { Gathered elf64 self.now.opened.file.now bias (i + 1) segments.new }
+    {
+        let h = self.header(i);
+        if h.is(HeaderType::Load) {
+            segments.push(segment_of(bias, h));
+        }
     }
-}
 
-// The segments of a file whose rules are clear.
-pub(crate) fn gather(opened: &Opened, bias: u64, headers: u32) -> Segments
-    requires laid { Laid elf64 opened.now.file.now bias }
-    requires headers { headers ≡ phnum elf64 opened.now.file.now }
-    ensures { listed result ≡ segments_of elf64 opened.now.file.now bias }
-{
-    let mut segments = Segments::none();
-    for i in 0..headers {
-        add(&mut segments, opened, bias, i);
+    // The file's segments at a bias.
+    pub(crate) fn segments(&self, bias: u64) -> Segments
+        requires { Laid elf64 self.now.opened.file.now bias }
+        ensures { listed result ≡ segments_of elf64 self.now.opened.file.now bias }
+    {
+        let mut segments = Segments::none();
+        for i in 0..self.headers() {
+            self.add(&mut segments, bias, i);
+        }
+        segments
     }
-    segments
 }

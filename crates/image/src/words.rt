@@ -3,10 +3,8 @@ ghost use Rattle.std.specs.Prelude.{◌≡◌, ℕ, ◌+◌, ◌-◌, ◌^◌, �
 ghost use Rattle.elf.specs.Layouts.{elf64};
 ghost use Rattle.image.specs.Prescribed.{word_of, byte_of, reaches};
 
+use elf::kinds::RelocationType;
 use elf::records::Relocation;
-
-// The type of a relocation that puts the bias plus its addend at its offset.
-const RELATIVE: u32 = 3;
 
 // The word: bias plus addend, modulo 2^64.
 pub fn word_of(bias: u64, addend: i64) -> u64
@@ -51,7 +49,7 @@ pub(crate) fn relocate(out: &mut [u8], address: u64, bias: u64, r: &Relocation)
     requires { r.now.kind ≡ 3 → bias + r.now.offset + 8 < 2 ^ 64 }
     ensures { (j : ℕ) → j < length out.old → slice_index out.new j ≡ (if reaches elf64 bias (address + j) r.now then byte_of (word_of elf64 bias r.now.addend) (address + j - (bias + r.now.offset)) else slice_index out.old j) }
 {
-    if r.kind == RELATIVE {
+    if r.is(RelocationType::Relative) {
         put_word(out, address, bias + r.offset, word_of(bias, r.addend));
     }
 }
