@@ -1,7 +1,7 @@
 -- What is known of a file, and of a file at a bias, once the rules are clear. Assumes nothing.
-use Rattle.std.proofs.Common.{◌≡◌, ℕ, zero, suc, ◌+◌, ◌^◌, ◌<◌, ◌≤◌, eqb, List, length, sym, refl, ◌∙◌, subst, inl, inr, arith, lit<}
+use Rattle.std.proofs.Common.{◌≡◌, ℕ, zero, suc, ◌+◌, ◌^◌, ◌<◌, ◌≤◌, eqb, List, length, Ok, Err, Result, sym, refl, ◌∙◌, subst, inl, inr, arith, lit<}
 use Rattle.std.proofs.lemmas.Bool.{cases_lt, cases_eq, cases_order, eq-eqb, ne_eqb, cond-true, cond-false}
-use Rattle.faults.specs.Rules.{AllClear, First}
+use Rattle.faults.specs.Rules.{AllClear, First, Answers}
 use Rattle.faults.specs.declared.fault.Fault.{Fault}
 use Rattle.faults.proofs.Families.{clear_front, clear_back, clear_both, first_front, first_back, faultless}
 use Rattle.elf.specs.Layouts.{Sound, elf64}
@@ -82,13 +82,17 @@ module _ (l : Layout) (b : List ℕ) (bias : ℕ) where
   unfolding load_rules
   load_first f first = first_front (open_rules l b) (plan_rules l b bias) f first
 
-  pub load_back : (f : Fault) → AllClear (open_rules l b) → First (plan_rules l b bias) f → First (load_rules l b bias) f
-  unfolding load_rules
-  load_back f clear first = first_back (open_rules l b) (plan_rules l b bias) f clear first
-
   pub load_clear : AllClear (open_rules l b) → AllClear (plan_rules l b bias) → AllClear (load_rules l b bias)
   unfolding load_rules
   load_clear opened planned = clear_both (open_rules l b) (plan_rules l b bias) opened planned
+
+  load_back : (f : Fault) → AllClear (open_rules l b) → First (plan_rules l b bias) f → First (load_rules l b bias) f
+  unfolding load_rules
+  load_back f clear first = first_back (open_rules l b) (plan_rules l b bias) f clear first
+
+  pub load_answers : {X : Type 0} (P : X → Type 0) (r : Result X Fault) → AllClear (open_rules l b) → Answers (plan_rules l b bias) P r → Answers (load_rules l b bias) P r
+  load_answers P (Ok x) opened rest = (load_clear opened rest.0, rest.1)
+  load_answers P (Err f) opened first = load_back f opened first
 
 -- A file that can be planned is no longer than the limit.
 pub file_short : (b : List ℕ) (bias : ℕ) → AllClear (load_rules elf64 b bias) → length b ≤ 16777216

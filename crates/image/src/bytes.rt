@@ -13,7 +13,7 @@ use elf::records::Relocation;
 impl Image<'_> {
     // Where in the file the byte stands that the file puts at an address.
     pub(crate) fn file_offset(&self, address: u64) -> Option<u64>
-        ensures { MatchOption result (find (has_file_byte address) (segments_of elf64 self.now.checked.opened.file.now self.now.bias) ≡ None) (λ o. (o < length self.now.checked.opened.file.now) × ((s : Part) × (find (has_file_byte address) (segments_of elf64 self.now.checked.opened.file.now self.now.bias) ≡ Some s) × (o ≡ s.offset + (address - s.address)))) }
+        ensures { MatchOption result (find (has_file_byte address) (segments_of elf64 self.now.opened.file.now self.now.bias) ≡ None) (λ o. (o < length self.now.opened.file.now) × ((s : Part) × (find (has_file_byte address) (segments_of elf64 self.now.opened.file.now self.now.bias) ≡ Some s) × (o ≡ s.offset + (address - s.address)))) }
     {
         let segment = self.segments.with_file_byte(address)?;
         Some(segment.offset + (address - segment.address))
@@ -21,17 +21,17 @@ impl Image<'_> {
 
     // The byte that the file puts at an address.
     fn file_byte(&self, address: u64) -> u8
-        ensures { result ≡ byte_after elf64 self.now.checked.opened.file.now self.now.bias 0 address }
+        ensures { result ≡ byte_after elf64 self.now.opened.file.now self.now.bias 0 address }
     {
         match self.file_offset(address) {
-            Some(offset) => self.checked.opened.bytes()[offset as usize],
+            Some(offset) => self.opened.bytes()[offset as usize],
             None => 0,
         }
     }
 
     // Fills a buffer with the bytes that the file puts from an address on. Past 2^64 it puts none.
     fn fill(&self, address: u64, out: &mut [u8])
-        ensures { (j : ℕ) → j < length out.old → slice_index out.new j ≡ byte_after elf64 self.now.checked.opened.file.now self.now.bias 0 (address + j) }
+        ensures { (j : ℕ) → j < length out.old → slice_index out.new j ≡ byte_after elf64 self.now.opened.file.now self.now.bias 0 (address + j) }
     {
         fill_from(out, address, 0, |a| self.file_byte(a));
     }
@@ -39,18 +39,18 @@ impl Image<'_> {
     // The relocation `i` of the file's table.
     pub(crate) fn relocation(&self, i: u32) -> Relocation
         requires { i < self.now.table.count }
-        ensures same { result ≡ relocation_in elf64 self.now.checked.opened.file.now (relocation_table elf64 self.now.checked.opened.file.now) i }
+        ensures same { result ≡ relocation_in elf64 self.now.opened.file.now (relocation_table elf64 self.now.opened.file.now) i }
         ensures ends { result.kind ≡ 3 → self.now.bias + result.offset + 8 ≤ 2 ^ 38 }
     {
         let offset = self.table.first + self.table.size * i as u64;
-        self.checked.opened.relocation_at(offset).unwrap()
+        self.opened.relocation_at(offset).unwrap()
     }
 
     // Puts the word of the relocation `i`, as far as the buffer from an address on holds it.
     fn relocate_nth(&self, i: u32, address: u64, out: &mut [u8])
         requires within { i < self.now.table.count }
-        requires so_far { (j : ℕ) → j < length out.old → slice_index out.old j ≡ byte_after elf64 self.now.checked.opened.file.now self.now.bias i (address + j) }
-        ensures { (j : ℕ) → j < length out.old → slice_index out.new j ≡ byte_after elf64 self.now.checked.opened.file.now self.now.bias (i + 1) (address + j) }
+        requires so_far { (j : ℕ) → j < length out.old → slice_index out.old j ≡ byte_after elf64 self.now.opened.file.now self.now.bias i (address + j) }
+        ensures { (j : ℕ) → j < length out.old → slice_index out.new j ≡ byte_after elf64 self.now.opened.file.now self.now.bias (i + 1) (address + j) }
     {
         let r = self.relocation(i);
         relocate(out, address, self.bias, &r);
@@ -58,8 +58,8 @@ impl Image<'_> {
 
     // Puts the words of the file's relocations, in the table's order.
     fn relocate(&self, address: u64, out: &mut [u8])
-        requires { (j : ℕ) → j < length out.old → slice_index out.old j ≡ byte_after elf64 self.now.checked.opened.file.now self.now.bias 0 (address + j) }
-        ensures { (j : ℕ) → j < length out.old → slice_index out.new j ≡ byte_after elf64 self.now.checked.opened.file.now self.now.bias self.now.table.count (address + j) }
+        requires { (j : ℕ) → j < length out.old → slice_index out.old j ≡ byte_after elf64 self.now.opened.file.now self.now.bias 0 (address + j) }
+        ensures { (j : ℕ) → j < length out.old → slice_index out.new j ≡ byte_after elf64 self.now.opened.file.now self.now.bias self.now.table.count (address + j) }
     {
         for i in 0..self.table.count {
             self.relocate_nth(i, address, out);
@@ -68,7 +68,7 @@ impl Image<'_> {
 
     // Fills a buffer with the bytes from an address on.
     pub(crate) fn bytes(&self, address: u64, out: &mut [u8])
-        ensures { (j : ℕ) → j < length out.old → slice_index out.new j ≡ (image_of elf64 self.now.checked.opened.file.now self.now.bias).byte (address + j) }
+        ensures { (j : ℕ) → j < length out.old → slice_index out.new j ≡ (image_of elf64 self.now.opened.file.now self.now.bias).byte (address + j) }
     {
         self.fill(address, out);
         self.relocate(address, out);

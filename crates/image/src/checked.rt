@@ -8,6 +8,7 @@ ghost use Rattle.elf.specs.Dynamic.{open_rules};
 ghost use Rattle.image.specs.Plans.{end_below, BadBias, PastEnd, plan_rules};
 ghost use Rattle.image.specs.Stages.{AllClear-prop};
 
+use crate::placed::Placed;
 use elf::kinds::{FileType, HeaderType};
 use elf::layout::{ELF64, PAGE};
 use elf::opened::{Opened, check};
@@ -93,7 +94,7 @@ impl<'a> Checked<'a> {
     }
 
     // The rules of planning.
-    pub(crate) fn check_bias(&self, bias: u64) -> Result<(), Fault>
+    fn check_bias(&self, bias: u64) -> Result<(), Fault>
         ensures { Tried (plan_rules elf64 self.now.opened.file.now bias) result }
     {
         if self.is_bad_bias(bias) {
@@ -103,5 +104,16 @@ impl<'a> Checked<'a> {
             return Err(Fault::new(Layer::Plan, Reason::BiasEnd, bias));
         }
         Ok(())
+    }
+
+    // Places the file at a bias that keeps the rules of planning.
+    pub(crate) fn at(&self, bias: u64) -> Result<Placed<'a>, Fault>
+        ensures { Answers (plan_rules elf64 self.now.opened.file.now bias) (λ p. (p.checked.opened.file.now ≡ self.now.opened.file.now) × (p.bias ≡ bias)) result }
+    {
+        self.check_bias(bias)?;
+        Ok(Placed {
+            checked: *self,
+            bias,
+        })
     }
 }

@@ -1,11 +1,13 @@
 // The segments of a file whose rules are clear, from its program headers.
-ghost use Rattle.std.specs.Prelude.{◌≡◌, ℕ, ◌+◌, ◌^◌, ◌<◌, ◌≤◌, [], ◌∷◌, ◌++◌};
+ghost use Rattle.std.specs.Prelude.{◌≡◌, ℕ, ◌+◌, ◌^◌, ◌<◌, ◌≤◌, [], ◌∷◌, ◌++◌, map};
 ghost use Rattle.elf.specs.Layouts.{elf64};
 ghost use Rattle.elf.specs.Segments.{phnum};
-ghost use Rattle.image.specs.Prescribed.{rights_of, segment_of, segments_of};
-ghost use Rattle.image.specs.Stages.{Laid, Gathered, listed};
+ghost use Rattle.image.specs.Pages.{page_count, Ascending};
+ghost use Rattle.image.specs.Prescribed.{rights_of, segment_of, segments_of, image_of};
+ghost use Rattle.image.specs.Stages.{Gathered, listed};
 
-use crate::checked::Checked;
+use crate::placed::Placed;
+use crate::prescribed::Image;
 use crate::ranges::PageRange;
 use crate::segments::{Segment, Segments};
 use elf::kinds::HeaderType;
@@ -77,29 +79,55 @@ impl Segments {
     }
 }
 
-impl Checked<'_> {
+impl<'a> Placed<'a> {
     // Adds the segment of the header `i`, if it is a load header.
-    fn add(&self, segments: &mut Segments, bias: u64, i: u32)
-        requires laid { Laid elf64 self.now.opened.file.now bias }
-        requires within { i < phnum elf64 self.now.opened.file.now }
-        requires so_far { Gathered elf64 self.now.opened.file.now bias i segments.old }
-        ensures { Gathered elf64 self.now.opened.file.now bias (i + 1) segments.new }
+    fn add(&self, segments: &mut Segments, i: u32)
+        requires within { i < phnum elf64 self.now.checked.opened.file.now }
+        requires so_far { Gathered elf64 self.now.checked.opened.file.now self.now.bias i segments.old }
+        ensures { Gathered elf64 self.now.checked.opened.file.now self.now.bias (i + 1) segments.new }
     {
-        let h = self.header(i);
+        let h = self.checked.header(i);
         if h.is(HeaderType::Load) {
-            segments.push(segment_of(bias, h));
+            segments.push(segment_of(self.bias, h));
         }
     }
 
-    // The file's segments at a bias.
-    pub(crate) fn segments(&self, bias: u64) -> Segments
-        requires { Laid elf64 self.now.opened.file.now bias }
-        ensures { listed result ≡ segments_of elf64 self.now.opened.file.now bias }
+    // The file's segments at their bias.
+    pub(crate) fn segments(&self) -> Segments
+        ensures list { listed result ≡ segments_of elf64 self.now.checked.opened.file.now self.now.bias }
+        ensures ascending { Ascending (map (λ x. x.pages) (listed result)) }
     {
         let mut segments = Segments::none();
-        for i in 0..self.headers() {
-            self.add(&mut segments, bias, i);
+        for i in 0..self.checked.headers() {
+            self.add(&mut segments, i);
         }
         segments
+    }
+
+    // How many pages the segments cover.
+    pub(crate) fn pages(&self) -> u32
+        ensures { result ≡ page_count (image_of elf64 self.now.checked.opened.file.now self.now.bias).ranges }
+    {
+        self.segments().pages() as u32
+    }
+
+    // The address at which the loaded file begins.
+    pub(crate) fn entry(&self) -> u64
+        ensures { result ≡ (image_of elf64 self.now.checked.opened.file.now self.now.bias).entry }
+    {
+        self.bias + self.checked.entry()
+    }
+
+    // The image, with its segments and its relocation table.
+    pub(crate) fn image(&self) -> Image<'a>
+        ensures { (result.opened.file.now ≡ self.now.checked.opened.file.now) × (result.bias ≡ self.now.bias) }
+    {
+        let opened = self.checked.opened;
+        Image {
+            opened,
+            bias: self.bias,
+            segments: self.segments(),
+            table: opened.relocation_table(),
+        }
     }
 }

@@ -7,6 +7,7 @@ mod checked;
 mod gather;
 pub mod laws;
 pub mod origin;
+mod placed;
 pub mod plan;
 pub mod planning;
 mod prescribed;

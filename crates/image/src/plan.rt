@@ -14,7 +14,7 @@ ghost use Rattle.image.specs.Plans.{end_below, BadBias, PastEnd, plan_rules, loa
 
 use crate::checked::Checked;
 use crate::origin::Origin;
-use crate::prescribed::Image;
+use crate::placed::Placed;
 use crate::segments::Segments;
 use elf::opened::Opened;
 use faults::fault::Fault;
@@ -38,25 +38,10 @@ impl<'a> Plan<'a> {
     }
 
     // Checks the file and the bias against the rules of opening and of planning.
-    pub(crate) fn check(&self) -> Result<Checked<'a>, Fault>
-        ensures { Answers (load_rules elf64 self.now.opened.file.now self.now.bias) (λ c. c.opened.file.now ≡ self.now.opened.file.now) result }
+    pub(crate) fn check(&self) -> Result<Placed<'a>, Fault>
+        ensures { Answers (load_rules elf64 self.now.opened.file.now self.now.bias) (λ p. (p.checked.opened.file.now ≡ self.now.opened.file.now) × (p.bias ≡ self.now.bias)) result }
     {
-        let checked = Checked::new(&self.opened)?;
-        checked.check_bias(self.bias)?;
-        Ok(checked)
-    }
-
-    // The image that is planned.
-    fn image(&self) -> Result<Image<'a>, Fault>
-        ensures { Answers (load_rules elf64 self.now.opened.file.now self.now.bias) (λ m. (m.checked.opened.file.now ≡ self.now.opened.file.now) × (m.bias ≡ self.now.bias)) result }
-    {
-        let checked = self.check()?;
-        Ok(Image {
-            checked,
-            bias: self.bias,
-            segments: checked.segments(self.bias),
-            table: checked.opened.relocation_table(),
-        })
+        Checked::new(&self.opened)?.at(self.bias)
     }
 
     // The file's segments at their bias, in ascending order.
@@ -64,35 +49,35 @@ impl<'a> Plan<'a> {
         ensures list { Answers (load_rules elf64 self.now.opened.file.now self.now.bias) (λ s. listed s ≡ segments_of elf64 self.now.opened.file.now self.now.bias) result }
         ensures ascending { IfOk result (λ s. Ascending (map (λ x. x.pages) (listed s))) }
     {
-        Ok(self.image()?.segments)
+        Ok(self.check()?.segments())
     }
 
     // The address at which the loaded file begins.
     pub fn entry(&self) -> Result<u64, Fault>
         ensures { Answers (load_rules elf64 self.now.opened.file.now self.now.bias) (λ a. a ≡ (image_of elf64 self.now.opened.file.now self.now.bias).entry) result }
     {
-        Ok(self.image()?.entry())
+        Ok(self.check()?.entry())
     }
 
     // How many pages the file's segments cover.
     pub fn pages(&self) -> Result<u32, Fault>
         ensures { Answers (load_rules elf64 self.now.opened.file.now self.now.bias) (λ n. n ≡ page_count (image_of elf64 self.now.opened.file.now self.now.bias).ranges) result }
     {
-        Ok(self.image()?.pages())
+        Ok(self.check()?.pages())
     }
 
     // The rights that a page will have, where a segment covers it.
     pub fn rights(&self, page: u32) -> Result<Option<u8>, Fault>
         ensures { Answers (load_rules elf64 self.now.opened.file.now self.now.bias) (λ o. o ≡ option_map (λ s. s.rights) (find (covers_page page) (segments_of elf64 self.now.opened.file.now self.now.bias))) result }
     {
-        Ok(self.image()?.segments.rights(page))
+        Ok(self.segments()?.rights(page))
     }
 
     // Fills a buffer with the bytes that will stand from an address on; a refusal leaves it as it was.
     pub fn bytes(&self, address: u64, out: &mut [u8]) -> Result<(), Fault>
         ensures { MatchResult result (λ _. AllClear (load_rules elf64 self.now.opened.file.now self.now.bias) × ((j : ℕ) → j < length out.old → slice_index out.new j ≡ (image_of elf64 self.now.opened.file.now self.now.bias).byte (address + j))) (λ f. First (load_rules elf64 self.now.opened.file.now self.now.bias) f × (out.new ≡ out.old)) }
     {
-        self.image()?.bytes(address, out);
+        self.check()?.image().bytes(address, out);
         Ok(())
     }
 
@@ -101,14 +86,14 @@ impl<'a> Plan<'a> {
         ensures origin { Answers (load_rules elf64 self.now.opened.file.now self.now.bias) (Traced elf64 self.now.opened.file.now self.now.bias address) result }
         ensures byte { (x : Source) → ComesFrom elf64 self.now.opened.file.now self.now.bias address x → (image_of elf64 self.now.opened.file.now self.now.bias).byte address ≡ byte_from elf64 self.now.opened.file.now self.now.bias address x }
     {
-        Ok(self.image()?.origin(address))
+        Ok(self.check()?.image().origin(address))
     }
 
     // Where the bytes from an address on will come from, each as `origin` has it; a refusal leaves the buffer as it was.
     pub fn origins(&self, address: u64, out: &mut [Option<Origin>]) -> Result<(), Fault>
         ensures { MatchResult result (λ _. AllClear (load_rules elf64 self.now.opened.file.now self.now.bias) × ((j : ℕ) → j < length out.old → Traced elf64 self.now.opened.file.now self.now.bias (address + j) (slice_index_or out.new j None))) (λ f. First (load_rules elf64 self.now.opened.file.now self.now.bias) f × (out.new ≡ out.old)) }
     {
-        self.image()?.origins(address, out);
+        self.check()?.image().origins(address, out);
         Ok(())
     }
 }

@@ -17,7 +17,7 @@ impl Image<'_> {
     // Whether the relocation `i` reaches an address.
     fn reaches(&self, i: u32, address: u64) -> bool
         requires { i < self.now.table.count }
-        ensures { result ≡ reaches elf64 self.now.bias address (relocation_in elf64 self.now.checked.opened.file.now (relocation_table elf64 self.now.checked.opened.file.now) i) }
+        ensures { result ≡ reaches elf64 self.now.bias address (relocation_in elf64 self.now.opened.file.now (relocation_table elf64 self.now.opened.file.now) i) }
     {
         let r = self.relocation(i);
         r.is(RelocationType::Relative) && is_among(address, self.bias + r.offset, ELF64.word as u64)
@@ -25,7 +25,7 @@ impl Image<'_> {
 
     // The last relocation that reaches an address.
     fn last_reaching(&self, address: u64) -> Option<u32>
-        ensures { MatchOption result (Unreached elf64 self.now.checked.opened.file.now self.now.bias address) (λ i. Highest (relocation_table elf64 self.now.checked.opened.file.now).count (Reaches elf64 self.now.checked.opened.file.now self.now.bias address) i) }
+        ensures { MatchOption result (Unreached elf64 self.now.opened.file.now self.now.bias address) (λ i. Highest (relocation_table elf64 self.now.opened.file.now).count (Reaches elf64 self.now.opened.file.now self.now.bias address) i) }
     {
         (0..self.table.count)
             .rev()
@@ -34,7 +34,7 @@ impl Image<'_> {
 
     // The origin of the byte at an address on a page of the image.
     fn origin_on_page(&self, address: u64) -> Origin
-        ensures { ComesFrom elf64 self.now.checked.opened.file.now self.now.bias address result }
+        ensures { ComesFrom elf64 self.now.opened.file.now self.now.bias address result }
     {
         if let Some(i) = self.last_reaching(address) {
             return Origin::Word(i);
@@ -50,7 +50,7 @@ impl Image<'_> {
 
     // The origin of the byte at an address, where a segment covers its page.
     pub(crate) fn origin(&self, address: u64) -> Option<Origin>
-        ensures { Traced elf64 self.now.checked.opened.file.now self.now.bias address result }
+        ensures { Traced elf64 self.now.opened.file.now self.now.bias address result }
     {
         self.segments.covering(address / PAGE)?;
         Some(self.origin_on_page(address))
@@ -58,7 +58,7 @@ impl Image<'_> {
 
     // The origins of the bytes from an address on. Past 2^64 there is none.
     pub(crate) fn origins(&self, address: u64, out: &mut [Option<Origin>])
-        ensures { (j : ℕ) → j < length out.old → Traced elf64 self.now.checked.opened.file.now self.now.bias (address + j) (slice_index_or out.new j None) }
+        ensures { (j : ℕ) → j < length out.old → Traced elf64 self.now.opened.file.now self.now.bias (address + j) (slice_index_or out.new j None) }
     {
         fill_from(out, address, None, |a| self.origin(a));
     }

@@ -13,22 +13,13 @@ pub fn word_of(bias: u64, addend: i64) -> u64
     bias.wrapping_add(addend.cast_unsigned())
 }
 
-// The byte `k` of a word, lowest first.
-pub(crate) fn word_byte(word: u64, k: usize) -> u8
-    requires { k < 8 }
-    ensures { result ≡ byte_of word k }
-{
-    word.to_le_bytes()[k]
-}
-
 // Puts a byte at an address, where the buffer from `address` on holds it.
 fn put_byte(out: &mut [u8], address: u64, target: u64, byte: u8)
     ensures { (j : ℕ) → j < length out.old → slice_index out.new j ≡ (if nat_eq (address + j) target then byte else slice_index out.old j) }
 {
-    if target < address {
+    let Some(at) = target.checked_sub(address) else {
         return;
-    }
-    let at = target - address;
+    };
     if at < out.len() as u64 {
         out[at as usize] = byte;
     }
@@ -39,8 +30,8 @@ fn put_word(out: &mut [u8], address: u64, target: u64, word: u64)
     requires { target + 8 < 2 ^ 64 }
     ensures { (j : ℕ) → j < length out.old → slice_index out.new j ≡ (if nat_le target (address + j) && nat_lt (address + j) (target + 8) then byte_of word (address + j - target) else slice_index out.old j) }
 {
-    for k in 0..8 {
-        put_byte(out, address, target + k as u64, word_byte(word, k));
+    for (k, byte) in word.to_le_bytes().iter().enumerate() {
+        put_byte(out, address, target + k as u64, *byte);
     }
 }
 

@@ -8,6 +8,6 @@ use Rattle.image.proofs.prescribed.Image.bytes.Goals as goal
 pub returns : goal.returns
 returns c = λ j within.
     let m = c.args.self.now in
-    let b = m.checked.opened.file.now in
+    let b = m.opened.file.now in
     let a = c.args.address + j in
     c.relocate.ensures j (search rules) ∙ ap (λ (t : Table). byte_after elf64 b m.bias t.count a) m.tabled ∙ sym (after_all elf64 b m.bias a)

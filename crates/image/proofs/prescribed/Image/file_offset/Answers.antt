@@ -32,16 +32,16 @@ known b bias a xs s clear same e =
 pub overflow_sub-result : goal.overflow_sub-result
 overflow_sub-result c =
     let m = c.args.self.now in
-    (known m.checked.opened.file.now m.bias c.args.address _ c.in_ok-segment.segment m.clear m.gathered c.in_ok-segment.ensures).from
+    (known m.opened.file.now m.bias c.args.address _ c.in_ok-segment.segment m.clear m.gathered c.in_ok-segment.ensures).from
 
 pub overflow_add-result : goal.overflow_add-result
 overflow_add-result c =
     let m = c.args.self.now in
-    let k = known m.checked.opened.file.now m.bias c.args.address _ c.in_ok-segment.segment m.clear m.gathered c.in_ok-segment.ensures in
+    let k = known m.opened.file.now m.bias c.args.address _ c.in_ok-segment.segment m.clear m.gathered c.in_ok-segment.ensures in
     record { fits = omega arith }
 
 pub returns : goal.returns
 returns c =
     let m = c.args.self.now in
-    let k = known m.checked.opened.file.now m.bias c.args.address _ c.in_ok-segment.segment m.clear m.gathered c.in_ok-segment.ensures in
+    let k = known m.opened.file.now m.bias c.args.address _ c.in_ok-segment.segment m.clear m.gathered c.in_ok-segment.ensures in
     (omega arith, (c.in_ok-segment.segment, k.found, refl))

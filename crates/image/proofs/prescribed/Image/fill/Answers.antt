@@ -10,7 +10,7 @@ use Rattle.image.proofs.prescribed.Image.fill.Goals as goal
 pub returns : goal.returns
 returns c = λ j within.
     let m = c.args.self.now in
-    let b = m.checked.opened.file.now in
+    let b = m.opened.file.now in
     let a = c.args.address + j in
     let less : j < length c.args.out.now = within in
     elim (cases_lt a (2 ^ 64)) [

@@ -10,6 +10,6 @@ use Rattle.image.proofs.prescribed.Image.last_reaching.Goals as goal
 pub returns : goal.returns
 returns c =
     let m = c.args.self.now in
-    let b = m.checked.opened.file.now in
+    let b = m.opened.file.now in
     let count = ap (λ (t : Table). t.count) m.tabled in
     highest_found (relocation_table elf64 b).count (Reaches elf64 b m.bias c.args.address) _ _ _ c.find.result (cc) (cc) c.find.ensures.ran (λ x q k. search (rules, tests)) (λ x q k. search (rules, tests))

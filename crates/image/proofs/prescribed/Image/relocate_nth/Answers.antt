@@ -9,7 +9,7 @@ use Rattle.image.proofs.prescribed.Image.relocate_nth.Goals as goal
 pub returns : goal.returns
 returns c = λ j within.
     let m = c.args.self.now in
-    let b = m.checked.opened.file.now in
+    let b = m.opened.file.now in
     let i = c.args.i in
     let a = c.args.address + j in
     let put : Relocation → ℕ → ℕ = λ r below. cond (reaches elf64 m.bias a r) (byte_of (word_of elf64 m.bias r.addend) (a - (m.bias + r.offset))) below in

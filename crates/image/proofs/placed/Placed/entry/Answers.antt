@@ -1,7 +1,7 @@
 use Rattle.std.proofs.Common.{ℕ, ◌+◌, ap, arith}
 use Rattle.image.specs.Prescribed.{image_of}
 use Rattle.image.proofs.Known.{laid}
-use Rattle.image.proofs.prescribed.Image.entry.Goals as goal
+use Rattle.image.proofs.placed.Placed.entry.Goals as goal
 
 pub overflow_add-result : goal.overflow_add-result
 overflow_add-result c =
