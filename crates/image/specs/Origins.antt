@@ -1,5 +1,5 @@
 -- Where the byte at an address comes from. Assumes nothing.
-use Rattle.std.specs.Prelude.{find, ◌≡◌, ℕ, ◌+◌, ◌-◌, ◌/◌, true, false, List, is_some, Some, None, Option, slice_index}
+use Rattle.std.specs.Prelude.{◌≡◌, ℕ, ◌+◌, ◌-◌, ◌/◌, true, false, List, find, is_some, Some, None, Option, slice_index}
 use Rattle.elf.specs.Searches.{SomeBelow, Highest}
 use Rattle.elf.specs.Dynamic.{relocation_in, relocation_table}
 use Rattle.elf.specs.declared.layout.Layout.{Layout}

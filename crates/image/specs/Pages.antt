@@ -1,5 +1,5 @@
 -- Page ranges. Assumes nothing.
-use Rattle.std.specs.Prelude.{sum_by, ℕ, ◌+◌, ◌<◌, ◌≤◌, ◌⊎◌, List, [], ◌∷◌, Some, None, Option}
+use Rattle.std.specs.Prelude.{ℕ, ◌+◌, ◌<◌, ◌≤◌, ◌⊎◌, List, sum_by, [], ◌∷◌, Some, None, Option}
 use Rattle.image.specs.declared.ranges.PageRange.{PageRange}
 
 -- The range covers the page.

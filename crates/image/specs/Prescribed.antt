@@ -1,5 +1,5 @@
 -- The image that the ABI prescribes for a file at a bias. Assumes nothing.
-use Rattle.std.specs.Prelude.{find, ◌≡◌, ℕ, zero, suc, ◌+◌, ◌-◌, ◌/◌, ◌%◌, ◌^◌, Bool, cond, ◌&&◌, List, [], ◌∷◌, ◌++◌, map, ℤ, pos, negsuc, Some, None, Option, ◌==◌, nat_le, nat_lt, slice_index}
+use Rattle.std.specs.Prelude.{◌≡◌, ℕ, zero, suc, ◌+◌, ◌-◌, ◌/◌, ◌%◌, ◌^◌, Bool, cond, ◌&&◌, List, [], ◌∷◌, ◌++◌, map, find, ℤ, pos, negsuc, Some, None, Option, ◌==◌, nat_le, nat_lt, slice_index}
 use Rattle.elf.specs.Segments.{header, phnum, entry_point}
 use Rattle.elf.specs.Dynamic.{relocation_in, relocation_table}
 use Rattle.elf.specs.declared.layout.Layout.{Layout}

@@ -23,10 +23,9 @@ impl Image<'_> {
     fn file_byte(&self, address: u64) -> u8
         ensures { result ≡ byte_after elf64 self.now.opened.file.now self.now.bias 0 address }
     {
-        match self.file_offset(address) {
-            Some(offset) => self.opened.bytes()[offset as usize],
-            None => 0,
-        }
+        let file = self.opened.bytes();
+        self.file_offset(address)
+            .map_or(0, |offset| file[offset as usize])
     }
 
     // Fills a buffer with the bytes that the file puts from an address on. Past 2^64 it puts none.

@@ -1,5 +1,5 @@
 // An opened file whose rules of opening are clear, and the rules of planning on it.
-ghost use Rattle.std.specs.Prelude.{◌≡◌, ℕ, ◌+◌, ◌%◌, ◌<◌, ◌≤◌, ◌⊎◌, Decides, MatchOption};
+ghost use Rattle.std.specs.Prelude.{◌≡◌, ◌<◌, Decides, MatchOption};
 ghost use Rattle.faults.specs.Rules.{AllClear, Answers, Tried};
 ghost use Rattle.elf.specs.Layouts.{elf64};
 ghost use Rattle.elf.specs.Searches.{SomeBelow, Highest};

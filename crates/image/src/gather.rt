@@ -1,28 +1,17 @@
 // The segments of a file whose rules are clear, from its program headers.
-ghost use Rattle.std.specs.Prelude.{◌≡◌, ℕ, ◌+◌, ◌^◌, ◌<◌, ◌≤◌, [], ◌∷◌, ◌++◌, map};
+ghost use Rattle.std.specs.Prelude.{◌≡◌, ◌+◌, ◌^◌, ◌<◌, ◌≤◌, [], ◌∷◌, ◌++◌, map};
 ghost use Rattle.elf.specs.Layouts.{elf64};
 ghost use Rattle.elf.specs.Segments.{phnum};
-ghost use Rattle.image.specs.Pages.{page_count, Ascending};
-ghost use Rattle.image.specs.Prescribed.{rights_of, segment_of, segments_of, image_of};
+ghost use Rattle.image.specs.Pages.{Ascending};
+ghost use Rattle.image.specs.Prescribed.{rights_of, segment_of, segments_of};
 ghost use Rattle.image.specs.Stages.{Gathered, listed};
 
 use crate::placed::Placed;
-use crate::prescribed::Image;
 use crate::ranges::PageRange;
 use crate::segments::{Segment, Segments};
 use elf::kinds::HeaderType;
 use elf::layout::PAGE;
 use elf::records::ProgramHeader;
-
-// No segment.
-const NONE: Segment = Segment {
-    pages: PageRange { first: 0, count: 0 },
-    rights: 0,
-    address: 0,
-    memsz: 0,
-    offset: 0,
-    filesz: 0,
-};
 
 // The rights in a segment's flags. A writable page is readable too.
 fn rights_of(flags: u32) -> u8
@@ -62,7 +51,7 @@ impl Segments {
         ensures { (listed result ≡ []) × (result.count ≡ 0) }
     {
         Segments {
-            list: [NONE; 16],
+            list: [Segment::default(); 16],
             count: 0,
         }
     }
@@ -79,7 +68,7 @@ impl Segments {
     }
 }
 
-impl<'a> Placed<'a> {
+impl Placed<'_> {
     // Adds the segment of the header `i`, if it is a load header.
     fn add(&self, segments: &mut Segments, i: u32)
         requires within { i < phnum elf64 self.now.checked.opened.file.now }
@@ -102,32 +91,5 @@ impl<'a> Placed<'a> {
             self.add(&mut segments, i);
         }
         segments
-    }
-
-    // How many pages the segments cover.
-    pub(crate) fn pages(&self) -> u32
-        ensures { result ≡ page_count (image_of elf64 self.now.checked.opened.file.now self.now.bias).ranges }
-    {
-        self.segments().pages() as u32
-    }
-
-    // The address at which the loaded file begins.
-    pub(crate) fn entry(&self) -> u64
-        ensures { result ≡ (image_of elf64 self.now.checked.opened.file.now self.now.bias).entry }
-    {
-        self.bias + self.checked.entry()
-    }
-
-    // The image, with its segments and its relocation table.
-    pub(crate) fn image(&self) -> Image<'a>
-        ensures { (result.opened.file.now ≡ self.now.checked.opened.file.now) × (result.bias ≡ self.now.bias) }
-    {
-        let opened = self.checked.opened;
-        Image {
-            opened,
-            bias: self.bias,
-            segments: self.segments(),
-            table: opened.relocation_table(),
-        }
     }
 }

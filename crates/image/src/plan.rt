@@ -1,16 +1,14 @@
 // Plans: a file at a bias.
-ghost use Rattle.std.specs.Prelude.{find, ◌≡◌, ℕ, ◌+◌, ◌%◌, ◌<◌, ◌≤◌, ◌⊎◌, map, length, IfOk, if◌then◌else◌, None, Decides, MatchResult, nat_eq, slice_index, slice_index_or};
-ghost use Rattle.faults.specs.Rules.{Tried, Answers, AllClear, First};
+ghost use Rattle.std.specs.Prelude.{◌≡◌, ℕ, ◌+◌, ◌<◌, map, find, length, IfOk, None, MatchResult, slice_index, slice_index_or};
+ghost use Rattle.faults.specs.Rules.{Answers, AllClear, First};
 ghost use Rattle.elf.specs.Layouts.{elf64};
-ghost use Rattle.elf.specs.Segments.{phnum, header, entry_point};
-ghost use Rattle.elf.specs.Stages.{Bounded};
 ghost use Rattle.std.specs.Option.{option_map};
 ghost use Rattle.image.specs.Origins.{ComesFrom, Traced, byte_from};
 ghost use Rattle.image.specs.declared.origin.Origin.{Origin as Source};
 ghost use Rattle.image.specs.Pages.{page_count, Ascending};
 ghost use Rattle.image.specs.Prescribed.{segments_of, image_of, covers_page};
 ghost use Rattle.image.specs.Stages.{listed};
-ghost use Rattle.image.specs.Plans.{end_below, BadBias, PastEnd, plan_rules, load_rules};
+ghost use Rattle.image.specs.Plans.{load_rules};
 
 use crate::checked::Checked;
 use crate::origin::Origin;

@@ -1,9 +1,9 @@
 // Ranges of pages.
-ghost use Rattle.std.specs.Prelude.{◌≡◌, ℕ, ◌+◌, ◌<◌, ◌≤◌};
+ghost use Rattle.std.specs.Prelude.{◌≡◌, ◌+◌};
 ghost use Rattle.image.specs.Pages.{Covers, Covered, Outside, LowestOf};
 
 // The pages from `first` on, `count` of them.
-#[derive(Clone, Copy, PartialEq, Eq, Debug)]
+#[derive(Clone, Copy, PartialEq, Eq, Debug, Default)]
 pub struct PageRange {
     pub first: u32,
     pub count: u32,

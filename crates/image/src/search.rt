@@ -1,5 +1,5 @@
 // Searches among a file's segments.
-ghost use Rattle.std.specs.Prelude.{◌≡◌, ℕ, ◌+◌, ◌-◌, ◌<◌, ◌≤◌, ◌&&◌, map, find, length, MatchOption, nat_le, nat_lt, slice_index, slice_index_or};
+ghost use Rattle.std.specs.Prelude.{◌≡◌, ◌+◌, ◌<◌, ◌≤◌, ◌&&◌, map, find, length, MatchOption, nat_le, nat_lt, slice_index_or};
 ghost use Rattle.std.specs.Option.{option_map};
 ghost use Rattle.image.specs.Pages.{page_count};
 ghost use Rattle.image.specs.Prescribed.{covers_page, has_file_byte, has_memory};

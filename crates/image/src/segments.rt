@@ -4,7 +4,7 @@ ghost use Rattle.std.specs.Prelude.{◌≡◌, ◌≤◌, length};
 use crate::ranges::PageRange;
 
 // A load segment at its bias: the pages that it covers and their rights, its memory, and its bytes in the file.
-#[derive(Clone, Copy, PartialEq, Eq, Debug)]
+#[derive(Clone, Copy, PartialEq, Eq, Debug, Default)]
 pub struct Segment {
     pub pages: PageRange,
     pub rights: u8,

@@ -37,15 +37,14 @@ impl Image<'_> {
         ensures { ComesFrom elf64 self.now.opened.file.now self.now.bias address result }
     {
         if let Some(i) = self.last_reaching(address) {
-            return Origin::Word(i);
+            Origin::Word(i)
+        } else if let Some(offset) = self.file_offset(address) {
+            Origin::File(offset)
+        } else if self.segments.with_memory(address).is_some() {
+            Origin::Inside
+        } else {
+            Origin::Around
         }
-        if let Some(offset) = self.file_offset(address) {
-            return Origin::File(offset);
-        }
-        if self.segments.with_memory(address).is_some() {
-            return Origin::Inside;
-        }
-        Origin::Around
     }
 
     // The origin of the byte at an address, where a segment covers its page.

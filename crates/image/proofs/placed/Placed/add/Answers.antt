@@ -1,4 +1,4 @@
-use Rattle.std.proofs.Common.{◌≡◌, ℕ, ◌+◌, ◌≤◌, [], ◌∷◌, ◌++◌, ap, ◌∙◌, arith, rules}
+use Rattle.std.proofs.Common.{◌≡◌, ◌+◌, ◌≤◌, [], ◌∷◌, ◌++◌, ap, ◌∙◌, arith, rules}
 use Rattle.elf.specs.Layouts.{elf64}
 use Rattle.elf.specs.Segments.{Load, header, phnum}
 use Rattle.image.specs.Prescribed.{segment_of}
