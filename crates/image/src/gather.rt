@@ -69,18 +69,6 @@ impl Segments {
 }
 
 impl Placed<'_> {
-    // Adds the segment of the header `i`, if it is a load header.
-    fn add(&self, segments: &mut Segments, i: u32)
-        requires within { i < phnum elf64 self.now.checked.opened.file.now }
-        requires so_far { Gathered elf64 self.now.checked.opened.file.now self.now.bias i segments.old }
-        ensures { Gathered elf64 self.now.checked.opened.file.now self.now.bias (i + 1) segments.new }
-    {
-        let h = self.checked.header(i);
-        if h.is(HeaderType::Load) {
-            segments.push(segment_of(self.bias, h));
-        }
-    }
-
     // The file's segments at their bias.
     pub(crate) fn segments(&self) -> Segments
         ensures list { listed result ≡ segments_of elf64 self.now.checked.opened.file.now self.now.bias }
@@ -88,7 +76,10 @@ impl Placed<'_> {
     {
         let mut segments = Segments::none();
         for i in 0..self.checked.headers() {
-            self.add(&mut segments, i);
+            let h = self.checked.header(i);
+            if h.is(HeaderType::Load) {
+                segments.push(segment_of(self.bias, h));
+            }
         }
         segments
     }
