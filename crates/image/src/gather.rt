@@ -75,8 +75,7 @@ impl Placed<'_> {
         ensures ascending { Ascending (map (λ x. x.pages) (listed result)) }
     {
         let mut segments = Segments::none();
-        for i in 0..self.checked.headers() {
-            let h = self.checked.header(i);
+        for h in (0..self.checked.headers()).map(|i| self.checked.header(i)) {
             if h.is(HeaderType::Load) {
                 segments.push(segment_of(self.bias, h));
             }

@@ -1,28 +1,35 @@
-use Rattle.std.proofs.Common.{◌≡◌, ℕ, List, map, ◌+◌, ◌<◌, ◌≤◌, [], ◌∷◌, ◌++◌, sym, ap, ◌∙◌, subst, inl, inr, arith, rules}
+use Rattle.std.proofs.Common.{◌≡◌, ℕ, ◌+◌, ◌<◌, ◌≤◌, List, [], ◌∷◌, ◌++◌, map, sym, ap, ◌∙◌, subst, arith, rules}
 use Rattle.elf.specs.Layouts.{elf64}
 use Rattle.elf.specs.Segments.{Load, header, loads, phnum}
-use Rattle.image.specs.Prescribed.{segment_of, segments_of, loads_below}
 use Rattle.image.specs.Pages.{Ascending}
-use Rattle.image.specs.declared.segments.Segment.{Segment}
+use Rattle.image.specs.Prescribed.{segment_of, segments_of, loads_below}
 use Rattle.image.specs.Stages.{Gathered, listed}
+use Rattle.image.specs.declared.segments.Segment.{Segment}
 use Rattle.image.proofs.Known.{laid}
 use Rattle.image.proofs.Gathers.{loads_load, loads_mono, gathered_load, gathered_other}
 use Rattle.image.proofs.Counts.{ranges_ascend}
-use Rattle.image.proofs.placed.Placed.segments.Goals.{then-is, else-is}
 use Rattle.image.proofs.placed.Placed.segments.Goals as goal
 
-pub loop-i-init : goal.loop-i-init
+pub loop-h-init : goal.loop-h-init
 unfolding loads_below loads
-loop-i-init c = record { same = c.none-segments.ensures.0; counted = c.none-segments.ensures.1 }
+loop-h-init c =
+    let m = c.args.self.now in
+    let b = m.checked.opened.file.now in
+    let start : c.into_iter-h-iterator.result.iter.start ≡ 0 = search rules in
+    let end : c.into_iter-h-iterator.result.iter.end ≡ phnum elf64 b = search rules in
+    let seen : c.into_iter-h-iterator.result.f.0.now ≡ m = search rules in
+    let none : Gathered elf64 b m.bias 0 c.none-segments.result = record { same = c.none-segments.ensures.0; counted = c.none-segments.ensures.1 } in
+    (subst (λ (n : ℕ). Gathered elf64 b m.bias n c.none-segments.result) (sym start) none, end, omega arith, seen)
 
 pub segment_of-requires : goal.segment_of-requires
 segment_of-requires c =
     let m = c.args.self.now in
     let b = m.checked.opened.file.now in
-    let i = c.loop-i.i in
+    let i = c.loop-h.h-iterator.iter.start in
+    let same : c.in-Some.h ≡ header elf64 b i = search rules in
     let load : Load (header elf64 b i) = search rules in
+    let within : i < phnum elf64 b = search rules in
     let known = laid b m.bias m.clear in
-    let within : i < phnum elf64 b = omega (arith, c.headers-i-end.ensures, c.loop-i-test.true) in
     let full = known.full i within load in
     let end = known.ends i within load in
     search rules
@@ -31,38 +38,48 @@ pub push-requires : goal.push-requires
 push-requires c =
     let m = c.args.self.now in
     let b = m.checked.opened.file.now in
-    let i = c.loop-i.i in
+    let i = c.loop-h.h-iterator.iter.start in
+    let same : c.in-Some.h ≡ header elf64 b i = search rules in
     let load : Load (header elf64 b i) = search rules in
+    let within : i < phnum elf64 b = search rules in
     let more = loads_load elf64 b i load in
-    let next : i + 1 ≤ phnum elf64 b = omega (arith, c.headers-i-end.ensures, c.loop-i-test.true) in
+    let next : i + 1 ≤ phnum elf64 b = omega arith in
     let most = loads_mono elf64 b (i + 1) (phnum elf64 b) next in
-    omega (arith, (laid b m.bias m.clear).few, c.loop-i.invariant.counted)
+    omega (arith, (laid b m.bias m.clear).few, c.loop-h.invariant.0.counted)
 
-pub loop-i-preserved : goal.loop-i-preserved
-loop-i-preserved c =
+pub loop-h-preserved-then-is : goal.loop-h-preserved-then-is
+loop-h-preserved-then-is c =
     let m = c.args.self.now in
     let b = m.checked.opened.file.now in
-    let i = c.loop-i.i in
-    elim c.if-is.branch [
-      | then-is w ↦
-          let load : Load (header elf64 b i) = search rules in
-          let segment : w.segment_of.result ≡ segment_of m.bias (header elf64 b i) = w.segment_of.ensures ∙ ap (segment_of m.bias) c.header-h.ensures in
-          subst (Gathered elf64 b m.bias (i + 1)) (sym w.segments-is)
-          (gathered_load elf64 b m.bias i c.loop-i.segments c.loop-i.invariant w.push.new.self load
-          (w.push.ensures.listed ∙ ap (λ (s : Segment). listed c.loop-i.segments ++ s ∷ []) segment)
-          w.push.ensures.count)
-      | else-is w ↦
-          let other : Load (header elf64 b i) → ⊥ = search rules in
-          subst (Gathered elf64 b m.bias (i + 1)) (sym w.segments-is) (gathered_other elf64 b m.bias i c.loop-i.segments c.loop-i.invariant other)
-    ]
+    let i = c.loop-h.h-iterator.iter.start in
+    let same : c.in-Some.h ≡ header elf64 b i = search rules in
+    let load : Load (header elf64 b i) = search rules in
+    let segment : c.segment_of.result ≡ segment_of m.bias (header elf64 b i) = c.segment_of.ensures ∙ ap (segment_of m.bias) same in
+    let start : c.next.new.self.iter.start ≡ i + 1 = search rules in
+    let more =
+    gathered_load elf64 b m.bias i c.loop-h.segments c.loop-h.invariant.0 c.push.new.self load
+    (c.push.ensures.listed ∙ ap (λ (s : Segment). listed c.loop-h.segments ++ s ∷ []) segment)
+    c.push.ensures.count in
+    (subst (λ (n : ℕ). Gathered elf64 b m.bias n c.push.new.self) (sym start) more, search rules, search rules, search rules)
+
+pub loop-h-preserved : goal.loop-h-preserved
+loop-h-preserved c =
+    let m = c.args.self.now in
+    let b = m.checked.opened.file.now in
+    let i = c.loop-h.h-iterator.iter.start in
+    let same : c.in-Some.h ≡ header elf64 b i = search rules in
+    let other : Load (header elf64 b i) → ⊥ = search rules in
+    let start : c.next.new.self.iter.start ≡ i + 1 = search rules in
+    let more = gathered_other elf64 b m.bias i c.loop-h.segments c.loop-h.invariant.0 other in
+    (subst (λ (n : ℕ). Gathered elf64 b m.bias n c.loop-h.segments) (sym start) more, search rules, search rules, search rules)
 
 pub returns : goal.returns
 unfolding segments_of
 returns c =
     let m = c.args.self.now in
     let b = m.checked.opened.file.now in
-    let all : c.loop-i.i ≡ phnum elf64 b = omega (arith, c.headers-i-end.ensures) in
-    let list = c.loop-i.invariant.same ∙ ap (λ (n : ℕ). map (segment_of m.bias) (loads_below elf64 b n)) all in
+    let all : c.loop-h.h-iterator.iter.start ≡ phnum elf64 b = search rules in
+    let list = c.loop-h.invariant.0.same ∙ ap (λ (n : ℕ). map (segment_of m.bias) (loads_below elf64 b n)) all in
     record {
       list = list;
       ascending = subst (λ (ss : List Segment). Ascending (map (λ (s : Segment). s.pages) ss)) (sym list) (ranges_ascend b m.bias m.clear);
