@@ -45,23 +45,13 @@ impl Image<'_> {
         self.opened.relocation_at(offset).unwrap()
     }
 
-    // Puts the word of the relocation `i`, as far as the buffer from an address on holds it.
-    fn relocate_nth(&self, i: u32, address: u64, out: &mut [u8])
-        requires within { i < self.now.table.count }
-        requires so_far { (j : ℕ) → j < length out.old → slice_index out.old j ≡ byte_after elf64 self.now.opened.file.now self.now.bias i (address + j) }
-        ensures { (j : ℕ) → j < length out.old → slice_index out.new j ≡ byte_after elf64 self.now.opened.file.now self.now.bias (i + 1) (address + j) }
-    {
-        let r = self.relocation(i);
-        relocate(out, address, self.bias, &r);
-    }
-
-    // Puts the words of the file's relocations, in the table's order.
+    // Puts the words of the file's relocations, in the table's order, as far as the buffer from an address on holds them.
     fn relocate(&self, address: u64, out: &mut [u8])
         requires { (j : ℕ) → j < length out.old → slice_index out.old j ≡ byte_after elf64 self.now.opened.file.now self.now.bias 0 (address + j) }
         ensures { (j : ℕ) → j < length out.old → slice_index out.new j ≡ byte_after elf64 self.now.opened.file.now self.now.bias self.now.table.count (address + j) }
     {
-        for i in 0..self.table.count {
-            self.relocate_nth(i, address, out);
+        for r in (0..self.table.count).map(|i| self.relocation(i)) {
+            relocate(out, address, self.bias, &r);
         }
     }
 

@@ -20,6 +20,7 @@ fn put_byte(out: &mut [u8], address: u64, target: u64, byte: u8)
     let Some(at) = target.checked_sub(address) else {
         return;
     };
+    // Written by index: what is written through `get_mut` gets no proof.
     if at < out.len() as u64 {
         out[at as usize] = byte;
     }
