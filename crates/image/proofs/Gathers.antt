@@ -1,5 +1,6 @@
 -- The segments of one header more. Assumes nothing.
-use Rattle.std.proofs.Common.{◌≡◌, ℕ, zero, suc, ◌+◌, ◌<◌, ◌≤◌, eqb, List, [], ◌∷◌, ◌++◌, map, sym, refl, ap, ◌∙◌, subst, inl, inr, add-zero, mul-le-mul_left, mul-add, add-one, arith}
+use Rattle.std.proofs.Common.{◌≡◌, ℕ, zero, suc, ◌+◌, ◌<◌, ◌≤◌, eqb, List, [], ◌∷◌, ◌++◌, map, sym, ap, ◌∙◌, subst, inl, inr, add-zero, mul-le-mul_left, mul-add, add-one, arith}
+use Rattle.std.proofs.lemmas.List.{map-append, append-nil}
 use Rattle.std.proofs.lemmas.Bool.{eq-eqb, ne_eqb, cond-true, cond-false, cases_lt}
 use Rattle.elf.specs.Segments.{Load, header, phnum, loads}
 use Rattle.elf.specs.Stages.{Readable}
@@ -10,14 +11,6 @@ use Rattle.image.specs.Prescribed.{segment_of, loads_below}
 use Rattle.image.specs.Stages.{Gathered, listed}
 use Rattle.image.specs.declared.segments.Segment.{Segment}
 use Rattle.image.specs.declared.segments.Segments.{Segments}
-
-pub map_append : {A B : Type 0} (f : A → B) (xs ys : List A) → map f (xs ++ ys) ≡ map f xs ++ map f ys
-map_append f [] ys = refl
-map_append f (x ∷ xs) ys = ap (λ zs. f x ∷ zs) (map_append f xs ys)
-
-pub append_none : {A : Type 0} (xs : List A) → xs ++ [] ≡ xs
-append_none [] = refl
-append_none (x ∷ xs) = ap (λ zs. x ∷ zs) (append_none xs)
 
 module _ (l : Layout) (bytes : List ℕ) where
   -- A header of the table is whole.
@@ -40,17 +33,23 @@ module _ (l : Layout) (bytes : List ℕ) where
       let h = header l bytes i in
       ap (loads l bytes) (add-one i) ∙ ap (λ (n : ℕ). loads l bytes i + n) (cond-false (eqb h.kind 1) 1 0 (ne_eqb h.kind 1 other)) ∙ add-zero (loads l bytes i)
 
-  pub below_load : (i : ℕ) → Load (header l bytes i) → loads_below l bytes (i + 1) ≡ loads_below l bytes i ++ header l bytes i ∷ []
+  pub loads_more : (i : ℕ) → Load (header l bytes i) → loads_below l bytes (suc i) ≡ loads_below l bytes i ++ header l bytes i ∷ []
   unfolding loads_below
-  below_load i load =
+  loads_more i load =
       let h = header l bytes i in
-      ap (loads_below l bytes) (add-one i) ∙ ap (λ (xs : List ProgramHeader). loads_below l bytes i ++ xs) (cond-true (eqb h.kind 1) (h ∷ []) [] (eq-eqb h.kind 1 load))
+      ap (λ (xs : List ProgramHeader). loads_below l bytes i ++ xs) (cond-true (eqb h.kind 1) (h ∷ []) [] (eq-eqb h.kind 1 load))
+
+  pub loads_same : (i : ℕ) → (Load (header l bytes i) → ⊥) → loads_below l bytes (suc i) ≡ loads_below l bytes i
+  unfolding loads_below
+  loads_same i other =
+      let h = header l bytes i in
+      ap (λ (xs : List ProgramHeader). loads_below l bytes i ++ xs) (cond-false (eqb h.kind 1) (h ∷ []) [] (ne_eqb h.kind 1 other)) ∙ append-nil (loads_below l bytes i)
+
+  pub below_load : (i : ℕ) → Load (header l bytes i) → loads_below l bytes (i + 1) ≡ loads_below l bytes i ++ header l bytes i ∷ []
+  below_load i load = ap (loads_below l bytes) (add-one i) ∙ loads_more i load
 
   pub below_other : (i : ℕ) → (Load (header l bytes i) → ⊥) → loads_below l bytes (i + 1) ≡ loads_below l bytes i
-  unfolding loads_below
-  below_other i other =
-      let h = header l bytes i in
-      ap (loads_below l bytes) (add-one i) ∙ ap (λ (xs : List ProgramHeader). loads_below l bytes i ++ xs) (cond-false (eqb h.kind 1) (h ∷ []) [] (ne_eqb h.kind 1 other)) ∙ append_none (loads_below l bytes i)
+  below_other i other = ap (loads_below l bytes) (add-one i) ∙ loads_same i other
 
   -- There are no more load headers among fewer headers.
   pub loads_mono : (m n : ℕ) → m ≤ n → loads l bytes m ≤ loads l bytes n
@@ -68,7 +67,7 @@ module _ (l : Layout) (bytes : List ℕ) where
       same =
           same
           ∙ ap (λ (xs : List Segment). xs ++ segment_of bias (header l bytes i) ∷ []) before.same
-          ∙ sym (map_append (segment_of bias) (loads_below l bytes i) (header l bytes i ∷ []))
+          ∙ sym (map-append (segment_of bias) (loads_below l bytes i) (header l bytes i ∷ []))
           ∙ ap (map (segment_of bias)) (sym (below_load i load));
       counted = count ∙ ap (λ (n : ℕ). n + 1) before.counted ∙ sym (loads_load i load);
     }

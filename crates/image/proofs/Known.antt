@@ -1,36 +1,21 @@
 -- What is known of a file, and of a file at a bias, once the rules are clear. Assumes nothing.
-use Rattle.std.proofs.Common.{◌≡◌, ℕ, zero, suc, ◌+◌, ◌^◌, ◌<◌, ◌≤◌, eqb, List, Result, sym, refl, ap, ◌∙◌, subst, inl, inr, arith, lit<}
-use Rattle.std.proofs.lemmas.Bool.{cases_lt, cases_eq, eq-eqb, ne_eqb, cond-true, cond-false}
-use Rattle.faults.specs.Rules.{AllClear, First, Tried}
+use Rattle.std.proofs.Common.{◌≡◌, ℕ, zero, suc, ◌+◌, ◌^◌, ◌<◌, ◌≤◌, eqb, List, length, Ok, Err, Result, sym, refl, ◌∙◌, subst, inl, inr, arith, lit<}
+use Rattle.std.proofs.lemmas.Bool.{cases_lt, cases_eq, cases_order, eq-eqb, ne_eqb, cond-true, cond-false}
+use Rattle.faults.specs.Rules.{AllClear, First, Answers}
 use Rattle.faults.specs.declared.fault.Fault.{Fault}
-use Rattle.faults.proofs.Families.{clear_front, clear_back, first_front, tried_back, faultless}
+use Rattle.faults.proofs.Families.{clear_front, clear_back, clear_both, first_front, first_back, faultless}
 use Rattle.elf.specs.Layouts.{Sound, elf64}
 use Rattle.elf.specs.Bytes.{le}
-use Rattle.elf.specs.Records.{file_header}
-use Rattle.elf.specs.Searches.{Highest}
-use Rattle.elf.specs.Segments.{Load, header, phnum, loads, file_type, entry_point, first_page, last_page, BadOrder}
+use Rattle.elf.specs.Searches.{SomeBelow, Highest}
+use Rattle.elf.specs.Segments.{Load, header, phnum, loads, entry_point, first_page, last_page, BadOrder}
 use Rattle.elf.specs.Dynamic.{format_rules, open_rules, relocation_table}
 use Rattle.elf.specs.Files.{Listing}
 use Rattle.elf.specs.declared.records.Table.{Table}
 use Rattle.elf.specs.Stages.{Bounded, Extended}
 use Rattle.elf.specs.declared.layout.Layout.{Layout}
-use Rattle.elf.specs.declared.records.FileHeader.{FileHeader}
 use Rattle.elf.proofs.Passed.{knows_all, groups, format_clear}
 use Rattle.image.specs.Plans.{end_below, plan_rules, load_rules}
 use Rattle.image.specs.Stages.{Laid}
-
--- The fields of the file header.
-pub header_kind : (l : Layout) (b : List ℕ) (h : FileHeader) → h ≡ file_header l b → h.kind ≡ file_type b
-unfolding file_header
-header_kind l b h e = ap (λ (x : FileHeader). x.kind) e
-
-pub header_phnum : (l : Layout) (b : List ℕ) (h : FileHeader) → h ≡ file_header l b → h.phnum ≡ phnum l b
-unfolding file_header
-header_phnum l b h e = ap (λ (x : FileHeader). x.phnum) e
-
-pub header_entry : (l : Layout) (b : List ℕ) (h : FileHeader) → h ≡ file_header l b → h.entry ≡ entry_point l b
-unfolding file_header
-header_entry l b h e = ap (λ (x : FileHeader). x.entry) e
 
 -- The 64-bit layout is sound.
 pub sound64 : Sound elf64
@@ -97,9 +82,21 @@ module _ (l : Layout) (b : List ℕ) (bias : ℕ) where
   unfolding load_rules
   load_first f first = first_front (open_rules l b) (plan_rules l b bias) f first
 
-  pub load_tried : {X : Type 0} (r : Result X Fault) → AllClear (open_rules l b) → Tried (plan_rules l b bias) r → Tried (load_rules l b bias) r
+  pub load_clear : AllClear (open_rules l b) → AllClear (plan_rules l b bias) → AllClear (load_rules l b bias)
   unfolding load_rules
-  load_tried r clear rest = tried_back (open_rules l b) (plan_rules l b bias) r clear rest
+  load_clear opened planned = clear_both (open_rules l b) (plan_rules l b bias) opened planned
+
+  load_back : (f : Fault) → AllClear (open_rules l b) → First (plan_rules l b bias) f → First (load_rules l b bias) f
+  unfolding load_rules
+  load_back f clear first = first_back (open_rules l b) (plan_rules l b bias) f clear first
+
+  pub load_answers : {X : Type 0} (P : X → Type 0) (r : Result X Fault) → AllClear (open_rules l b) → Answers (plan_rules l b bias) P r → Answers (load_rules l b bias) P r
+  load_answers P (Ok x) opened rest = (load_clear opened rest.0, rest.1)
+  load_answers P (Err f) opened first = load_back f opened first
+
+-- A file that can be planned is no longer than the limit.
+pub file_short : (b : List ℕ) (bias : ℕ) → AllClear (load_rules elf64 b bias) → length b ≤ 16777216
+file_short b bias clear = (opened_known elf64 b sound64 (load_clear_open elf64 b bias clear)).bounded.readable.headed.short
 
 -- The ends of segments ascend.
 module _ (l : Layout) (b : List ℕ) where
@@ -136,6 +133,21 @@ module _ (l : Layout) (b : List ℕ) where
               },
               below_other n other ∙ rest.2,
             )
+      ]
+
+  -- The end is that of the highest load header, or 0 where there is none.
+  pub end_none : (n : ℕ) → (SomeBelow n (λ k. Load (header l b k)) → ⊥) → end_below l b n ≡ 0
+  unfolding end_below
+  end_none zero none = refl
+  end_none (suc n) none = below_other n (λ load. none (n, omega arith, load)) ∙ end_none n (λ some. none (some.0, (let w = some.1 in omega arith), some.2))
+
+  pub end_last : (n i : ℕ) → Highest n (λ k. Load (header l b k)) i → end_below l b n ≡ (header l b i).vaddr + (header l b i).memsz
+  end_last n i top =
+      let other = highest n i top.within top.fits in
+      elim (cases_order i other.0) [
+        | inl same ↦ subst (λ (k : ℕ). end_below l b n ≡ (header l b k).vaddr + (header l b k).memsz) (sym same) other.2
+        | inr (inl less) ↦ absurd (top.highest other.0 less other.1.within other.1.fits)
+        | inr (inr more) ↦ absurd (other.1.highest i more top.within top.fits)
       ]
 
   module _ (clear : (i : ℕ) → i < phnum l b → BadOrder l b i → ⊥) where

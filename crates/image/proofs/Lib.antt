@@ -6,3 +6,4 @@ pub mod Puts
 pub mod Assembles
 pub mod Counts
 pub mod Traces
+pub mod Lasts

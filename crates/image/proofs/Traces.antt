@@ -1,10 +1,11 @@
 -- The byte is the one that its origin has. Assumes nothing.
+use Rattle.std.specs.List.{find}
 use Rattle.std.proofs.Common.{◌≡◌, ℕ, zero, suc, ◌<◌, true, List, get_or, Some, None, sym, refl, ap, ◌∙◌, subst, inl, inr, arith}
 use Rattle.std.proofs.lemmas.Bool.{cases_Bool, cases_lt, cond-true, cond-false}
 use Rattle.elf.specs.Searches.{Highest}
 use Rattle.elf.specs.Dynamic.{relocation_in, relocation_table}
 use Rattle.elf.specs.declared.layout.Layout.{Layout}
-use Rattle.image.specs.Prescribed.{segments_of, first_of, has_file_byte, file_byte_by, reaches, last_reaching, byte_by, byte_after, image_of}
+use Rattle.image.specs.Prescribed.{segments_of, has_file_byte, file_byte_by, reaches, last_reaching, byte_by, byte_after, image_of}
 use Rattle.image.specs.Origins.{Reaches, Unreached, ComesFrom, byte_from}
 use Rattle.image.specs.declared.origin.Origin.{Origin}
 use Rattle.image.specs.declared.origin.Origin.TheVariants.{File, Word, Inside, Around}
@@ -46,11 +47,11 @@ module _ (l : Layout) (bytes : List ℕ) (bias a : ℕ) where
   pub byte_origin : (o : Origin) → ComesFrom l bytes bias a o → (image_of l bytes bias).byte a ≡ byte_from l bytes bias a o
   unfolding image_of byte_after
   byte_origin (Word i) top =
-      ap (byte_by l bytes bias a (file_byte_by bytes a (first_of (has_file_byte a) (segments_of l bytes bias)))) (last_reach (relocation_table l bytes).count i top)
+      ap (byte_by l bytes bias a (file_byte_by bytes a (find (has_file_byte a) (segments_of l bytes bias)))) (last_reach (relocation_table l bytes).count i top)
   byte_origin (File o) (none, (s, found, same)) =
-      ap (byte_by l bytes bias a (file_byte_by bytes a (first_of (has_file_byte a) (segments_of l bytes bias)))) (unreached none)
+      ap (byte_by l bytes bias a (file_byte_by bytes a (find (has_file_byte a) (segments_of l bytes bias)))) (unreached none)
       ∙ ap (file_byte_by bytes a) found ∙ ap (λ (k : ℕ). get_or bytes k 0) (sym same)
   byte_origin Inside (none, missing, _) =
-      ap (byte_by l bytes bias a (file_byte_by bytes a (first_of (has_file_byte a) (segments_of l bytes bias)))) (unreached none) ∙ ap (file_byte_by bytes a) missing
+      ap (byte_by l bytes bias a (file_byte_by bytes a (find (has_file_byte a) (segments_of l bytes bias)))) (unreached none) ∙ ap (file_byte_by bytes a) missing
   byte_origin Around (none, missing, _) =
-      ap (byte_by l bytes bias a (file_byte_by bytes a (first_of (has_file_byte a) (segments_of l bytes bias)))) (unreached none) ∙ ap (file_byte_by bytes a) missing
+      ap (byte_by l bytes bias a (file_byte_by bytes a (find (has_file_byte a) (segments_of l bytes bias)))) (unreached none) ∙ ap (file_byte_by bytes a) missing

@@ -1,5 +1,5 @@
 -- Page ranges. Assumes nothing.
-use Rattle.std.specs.Prelude.{ℕ, ◌+◌, ◌<◌, ◌≤◌, min, ◌⊎◌, List, [], ◌∷◌, Some, None, Option}
+use Rattle.std.specs.Prelude.{ℕ, ◌+◌, ◌<◌, ◌≤◌, ◌⊎◌, List, sum_by, [], ◌∷◌, Some, None, Option}
 use Rattle.image.specs.declared.ranges.PageRange.{PageRange}
 
 -- The range covers the page.
@@ -28,8 +28,7 @@ Ascending (r ∷ rs) = Above (r.first + r.count) rs × Ascending rs
 
 -- How many pages the ranges have, each range counted by itself.
 abbrev pub page_count : List PageRange → ℕ
-page_count [] = 0
-page_count (r ∷ rs) = r.count + page_count rs
+page_count ranges = sum_by (λ r. r.count) ranges
 
 -- page is the lowest of which P holds.
 pub record Least (P : ℕ → Type 0) (page : ℕ) : Type 0 where
@@ -40,9 +39,3 @@ pub record Least (P : ℕ → Type 0) (page : ℕ) : Type 0 where
 abbrev pub LowestOf : (ℕ → Type 0) → Option ℕ → Type 0
 LowestOf P None = (page : ℕ) → P page → ⊥
 LowestOf P (Some page) = Least P page
-
--- The lower of two pages, where there is one.
-abbrev pub lower_of : Option ℕ → Option ℕ → Option ℕ
-lower_of None b = b
-lower_of (Some a) None = Some a
-lower_of (Some a) (Some b) = Some (min a b)

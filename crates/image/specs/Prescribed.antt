@@ -1,5 +1,5 @@
 -- The image that the ABI prescribes for a file at a bias. Assumes nothing.
-use Rattle.std.specs.Prelude.{◌≡◌, ℕ, zero, suc, ◌+◌, ◌-◌, ◌/◌, ◌%◌, ◌^◌, Bool, cond, ◌&&◌, List, [], ◌∷◌, ◌++◌, map, ℤ, pos, negsuc, Some, None, Option, ◌==◌, nat_le, nat_lt, slice_index}
+use Rattle.std.specs.Prelude.{◌≡◌, ℕ, zero, suc, ◌+◌, ◌-◌, ◌/◌, ◌%◌, ◌^◌, Bool, cond, ◌&&◌, List, [], ◌∷◌, ◌++◌, map, find, ℤ, pos, negsuc, Some, None, Option, ◌==◌, nat_le, nat_lt, slice_index}
 use Rattle.elf.specs.Segments.{header, phnum, entry_point}
 use Rattle.elf.specs.Dynamic.{relocation_in, relocation_table}
 use Rattle.elf.specs.declared.layout.Layout.{Layout}
@@ -39,11 +39,6 @@ segment_of bias h = record {
 unfoldable pub segments_of : Layout → List ℕ → ℕ → List Segment
 segments_of l bytes bias = map (segment_of bias) (loads_below l bytes (phnum l bytes))
 
--- The first segment of a list that passes a test. Segments have no page in common, so at most one covers a page.
-unfoldable pub first_of : (Segment → Bool) → List Segment → Option Segment
-first_of test [] = None
-first_of test (s ∷ ss) = cond (test s) (Some s) (first_of test ss)
-
 -- Whether the segment covers the page.
 abbrev pub covers_page : ℕ → Segment → Bool
 covers_page page s = nat_le s.pages.first page && nat_lt page (s.pages.first + s.pages.count)
@@ -56,7 +51,7 @@ has_file_byte a s = nat_le s.address a && nat_lt a (s.address + s.filesz)
 abbrev pub has_memory : ℕ → Segment → Bool
 has_memory a s = nat_le s.address a && nat_lt a (s.address + s.memsz)
 
--- The rights of a page: those of the segment that covers it, 0 where none does.
+-- The rights of a page: those of the segment that covers it, 0 where none does. Segments have no page in common, so at most one covers a page.
 abbrev pub rights_by : Option Segment → ℕ
 rights_by None = 0
 rights_by (Some s) = s.rights
@@ -105,19 +100,19 @@ pub record Image : Type 0 where
 -- The byte at an address once the file's bytes stand there and the first n relocations have put their words.
 unfoldable pub byte_after : Layout → List ℕ → ℕ → ℕ → ℕ → ℕ
 byte_after l bytes bias n a =
-    byte_by l bytes bias a (file_byte_by bytes a (first_of (has_file_byte a) (segments_of l bytes bias))) (last_reaching l bytes bias a n)
+    byte_by l bytes bias a (file_byte_by bytes a (find (has_file_byte a) (segments_of l bytes bias))) (last_reaching l bytes bias a n)
 
 -- The image of a file at a bias. A byte is decided by the last relocation that reaches it, else by the file, else it is 0.
 unfoldable pub image_of : Layout → List ℕ → ℕ → Image
 image_of l bytes bias = record {
   entry = bias + entry_point l bytes;
   ranges = map (λ s. s.pages) (segments_of l bytes bias);
-  rights = λ page. rights_by (first_of (covers_page page) (segments_of l bytes bias));
+  rights = λ page. rights_by (find (covers_page page) (segments_of l bytes bias));
   byte = byte_after l bytes bias (relocation_table l bytes).count;
 }
 
 -- The file's bytes on zeros, and then the words in the table's order, one after the other, give the image.
 pub record Assembled (l : Layout) : Type 0 where
-  pub start : (bytes : List ℕ) (bias a : ℕ) → byte_after l bytes bias 0 a ≡ file_byte_by bytes a (first_of (has_file_byte a) (segments_of l bytes bias))
+  pub start : (bytes : List ℕ) (bias a : ℕ) → byte_after l bytes bias 0 a ≡ file_byte_by bytes a (find (has_file_byte a) (segments_of l bytes bias))
   pub word : (bytes : List ℕ) (bias n a : ℕ) → byte_after l bytes bias (suc n) a ≡ cond (reaches l bias a (relocation_in l bytes (relocation_table l bytes) n)) (word_byte l bytes bias a n) (byte_after l bytes bias n a)
   pub whole : (bytes : List ℕ) (bias a : ℕ) → (image_of l bytes bias).byte a ≡ byte_after l bytes bias (relocation_table l bytes).count a

@@ -1,11 +1,18 @@
 -- What is known of a file and a bias once the rules of planning are clear, for the crate's own functions. Assumes nothing.
-use Rattle.std.specs.Prelude.{◌≡◌, ℕ, ◌+◌, ◌^◌, ◌<◌, ◌≤◌, List, map, take}
+use Rattle.std.specs.Prelude.{◌≡◌, ℕ, ◌+◌, ◌^◌, ◌<◌, ◌≤◌, List, [], ◌∷◌, map, take}
+use Rattle.std.specs.Coded.{×_prop, Π_prop, →_prop, Unit-prop}
+use Rattle.faults.specs.Rules.{Rule, AllClear}
 use Rattle.elf.specs.Segments.{Load, header, phnum, loads, entry_point}
 use Rattle.elf.specs.Stages.{Bounded}
 use Rattle.elf.specs.declared.layout.Layout.{Layout}
 use Rattle.image.specs.Prescribed.{segment_of, loads_below}
 use Rattle.image.specs.declared.segments.Segment.{Segment}
 use Rattle.image.specs.declared.segments.Segments.{Segments}
+
+-- A family of rules is clear in one way, so a type may carry the fact.
+pub AllClear-prop : (Rs : List Rule) → IsProp (AllClear Rs)
+AllClear-prop [] = Unit-prop
+AllClear-prop (R ∷ Rs) = ×_prop (Π_prop (λ i. →_prop (→_prop (λ x y. absurd x)))) (AllClear-prop Rs)
 
 -- Every load segment is not empty and ends by 2^38, there are at most 16, and the entry point lies below 2^38.
 pub record Laid (l : Layout) (bytes : List ℕ) (bias : ℕ) : Type 0 where

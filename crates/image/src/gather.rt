@@ -1,29 +1,17 @@
 // The segments of a file whose rules are clear, from its program headers.
-ghost use Rattle.std.specs.Prelude.{◌≡◌, ℕ, ◌+◌, ◌^◌, ◌<◌, ◌≤◌, [], ◌∷◌, ◌++◌};
+ghost use Rattle.std.specs.Prelude.{◌≡◌, ◌+◌, ◌^◌, ◌<◌, ◌≤◌, [], ◌∷◌, ◌++◌, map};
 ghost use Rattle.elf.specs.Layouts.{elf64};
 ghost use Rattle.elf.specs.Segments.{phnum};
+ghost use Rattle.image.specs.Pages.{Ascending};
 ghost use Rattle.image.specs.Prescribed.{rights_of, segment_of, segments_of};
-ghost use Rattle.image.specs.Stages.{Laid, Gathered, listed};
+ghost use Rattle.image.specs.Stages.{Gathered, listed};
 
+use crate::placed::Placed;
 use crate::ranges::PageRange;
 use crate::segments::{Segment, Segments};
-use elf::opened::Opened;
+use elf::kinds::HeaderType;
+use elf::layout::PAGE;
 use elf::records::ProgramHeader;
-
-// The type of a program header that describes a segment.
-const LOAD: u32 = 1;
-
-const PAGE: u64 = 4096;
-
-// No segment.
-const NONE: Segment = Segment {
-    pages: PageRange { first: 0, count: 0 },
-    rights: 0,
-    address: 0,
-    memsz: 0,
-    offset: 0,
-    filesz: 0,
-};
 
 // The rights in a segment's flags. A writable page is readable too.
 fn rights_of(flags: u32) -> u8
@@ -63,7 +51,7 @@ impl Segments {
         ensures { (listed result ≡ []) × (result.count ≡ 0) }
     {
         Segments {
-            list: [NONE; 16],
+            list: [Segment::default(); 16],
             count: 0,
         }
     }
@@ -80,30 +68,18 @@ impl Segments {
     }
 }
 
-// Adds the segment of the header `i`, if it is a load header.
-fn add(segments: &mut Segments, opened: &Opened, bias: u64, i: u32)
-    requires laid { Laid elf64 opened.now.file.now bias }
-    requires within { i < phnum elf64 opened.now.file.now }
-    requires so_far { Gathered elf64 opened.now.file.now bias i segments.old }
-    ensures { Gathered elf64 opened.now.file.now bias (i + 1) segments.new }
-{
-    let Some(h) = opened.header(i) else {
-        return;
-    };
-    if h.kind == LOAD {
-        segments.push(segment_of(bias, h));
+impl Placed<'_> {
+    // The file's segments at their bias.
+    pub(crate) fn segments(&self) -> Segments
+        ensures list { listed result ≡ segments_of elf64 self.now.checked.opened.file.now self.now.bias }
+        ensures ascending { Ascending (map (λ x. x.pages) (listed result)) }
+    {
+        let mut segments = Segments::none();
+        for h in (0..self.checked.headers()).map(|i| self.checked.header(i)) {
+            if h.is(HeaderType::Load) {
+                segments.push(segment_of(self.bias, h));
+            }
+        }
+        segments
     }
-}
-
-// The segments of a file whose rules are clear.
-pub(crate) fn gather(opened: &Opened, bias: u64, headers: u32) -> Segments
-    requires laid { Laid elf64 opened.now.file.now bias }
-    requires headers { headers ≡ phnum elf64 opened.now.file.now }
-    ensures { listed result ≡ segments_of elf64 opened.now.file.now bias }
-{
-    let mut segments = Segments::none();
-    for i in 0..headers {
-        add(&mut segments, opened, bias, i);
-    }
-    segments
 }

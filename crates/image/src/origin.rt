@@ -1,6 +1,6 @@
 // Where the byte at an address comes from.
 
-#[derive(Clone, Copy)]
+#[derive(Clone, Copy, PartialEq, Eq, Debug)]
 pub enum Origin {
     // The file, at this offset.
     File(u64),

@@ -4,7 +4,7 @@ ghost use Rattle.std.specs.Prelude.{◌≡◌, ◌≤◌, length};
 use crate::ranges::PageRange;
 
 // A load segment at its bias: the pages that it covers and their rights, its memory, and its bytes in the file.
-#[derive(Clone, Copy)]
+#[derive(Clone, Copy, PartialEq, Eq, Debug, Default)]
 pub struct Segment {
     pub pages: PageRange,
     pub rights: u8,
@@ -14,7 +14,7 @@ pub struct Segment {
     pub filesz: u64,
 }
 
-// At most 16 segments.
+// At most 16 segments. There is no heap here: the list has its memory in it.
 #[derive(Clone, Copy)]
 pub struct Segments {
     pub(crate) list: [Segment; 16],

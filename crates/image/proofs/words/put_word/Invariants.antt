@@ -1,9 +1,9 @@
-use Rattle.std.proofs.Common.{◌≡◌, ℕ, ◌+◌, ◌-◌, ◌<◌, cond, ◌&&◌, ltb, leb, length, get_or}
+use Rattle.std.proofs.Common.{◌≡◌, ℕ, ◌+◌, ◌-◌, ◌<◌, cond, ◌&&◌, nat_lt, nat_le, length, slice_index}
 use Rattle.image.specs.Prescribed.{byte_of}
 use Rattle.image.proofs.words.put_word.Given as goal
 
 -- The bytes of the word so far stand in the buffer, the others are as they were.
 abbrev pub invariant-loop-k : goal.invariant-loop-k
-invariant-loop-k s =
-    (j : ℕ) → j < length s.initial.out
-    → get_or s.out j 0 ≡ cond (leb s.target (s.address + j) && ltb (s.address + j) (s.target + s.k)) (byte_of s.word (s.address + j - s.target)) (get_or s.initial.out j 0)
+invariant-loop-k l =
+    (j : ℕ) → j < length l.initial.out
+    → slice_index l.out j ≡ cond (nat_le l.target (l.address + j) && nat_lt (l.address + j) (l.target + l.k)) (byte_of l.word (l.address + j - l.target)) (slice_index l.initial.out j)

@@ -1,26 +1,21 @@
-use Rattle.std.proofs.Common.{ℕ, List, subst}
-use Rattle.faults.specs.Rules.{AllClear, First}
-use Rattle.faults.proofs.Families.{passed_up}
+use Rattle.std.proofs.Common.{◌≡◌, List, ℕ, subst}
+use Rattle.faults.specs.Rules.{Answers}
+use Rattle.faults.proofs.Families.{handed_up}
 use Rattle.elf.specs.Layouts.{elf64}
-use Rattle.elf.specs.Dynamic.{open_rules}
-use Rattle.image.specs.Plans.{load_rules}
-use Rattle.image.proofs.Known.{opened_known, sound64, load_first, load_tried}
+use Rattle.image.specs.Plans.{plan_rules, load_rules}
+use Rattle.image.proofs.Known.{load_first, load_answers}
 use Rattle.image.proofs.plan.Plan.check.Goals as goal
 
-pub returns-in_err-check : goal.returns-in_err-check
-returns-in_err-check c =
+pub returns-in_err-new : goal.returns-in_err-new
+returns-in_err-new c =
     let b = c.args.self.now.opened.file.now in
-    let first = subst (λ (x : List ℕ). First (open_rules elf64 x) c.in_err-check.field-0.0) c.bytes.ensures c.in_err-check.ensures in
-    passed_up (load_rules elf64 b c.args.self.now.bias) _ _ c.from_residual.ensures.1 (load_first elf64 b c.args.self.now.bias _ first)
-
-pub check_bias-requires : goal.check_bias-requires
-check_bias-requires c =
-    let b = c.args.self.now.opened.file.now in
-    let clear = subst (λ (x : List ℕ). AllClear (open_rules elf64 x)) c.bytes.ensures c.in_ok-check.ensures in
-    (opened_known elf64 b sound64 clear).bounded
+    let bias = c.args.self.now.bias in
+    handed_up (load_rules elf64 b bias) _ _ _ c.from_residual.ensures.1 (load_first elf64 b bias _ c.in_err-new.ensures)
 
 pub returns : goal.returns
 returns c =
     let b = c.args.self.now.opened.file.now in
-    let clear = subst (λ (x : List ℕ). AllClear (open_rules elf64 x)) c.bytes.ensures c.in_ok-check.ensures in
-    load_tried elf64 b c.args.self.now.bias c.check_bias.result clear c.check_bias.ensures
+    let bias = c.args.self.now.bias in
+    let r = c.in_ok-new.ensures in
+    load_answers elf64 b bias _ c.at.result r.0
+    (subst (λ (x : List ℕ). Answers (plan_rules elf64 x bias) (λ p. (p.checked.opened.file.now ≡ x) × (p.bias ≡ bias)) c.at.result) r.1 c.at.ensures)

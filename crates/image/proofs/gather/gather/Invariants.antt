@@ -1,7 +1,0 @@
-use Rattle.elf.specs.Layouts.{elf64}
-use Rattle.image.specs.Stages.{Gathered}
-use Rattle.image.proofs.gather.gather.Given as goal
-
--- The segments of the headers so far.
-abbrev pub invariant-loop-i : goal.invariant-loop-i
-invariant-loop-i s = Gathered elf64 s.opened.file.now s.bias s.i s.segments
