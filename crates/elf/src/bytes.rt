@@ -12,6 +12,7 @@ fn bytes_at<const N: usize>(file: &[u8], at: usize) -> [u8; N]
     bytes
 }
 
+// One function for each width: `from_le_bytes` is a method of each type, and no trait has it.
 pub(crate) fn u16_at(file: &[u8], at: usize) -> u16
     requires { at + 2 ≤ length file.now }
     ensures { result ≡ le file.now at 2 }

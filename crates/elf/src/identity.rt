@@ -12,6 +12,7 @@ use faults::fault::{Fault, Layer, Reason};
 
 const MAGIC: [u8; 4] = [0x7f, 0x45, 0x4c, 0x46];
 
+// The only machine that is taken, so no enum says more than the number.
 const RISCV: u16 = 243;
 
 // The refusal of a file as a whole: it names a place and no record.

@@ -61,7 +61,7 @@ impl<'a> Headers<'a> {
         self.refuse(Reason::Interpreter, self.first_of(HeaderType::Interpreter))
     }
 
-    // A loop, since what `filter` and `count` give of a range is not found to be the number of load headers.
+    // A loop: with `filter` and `count` over the numbers of headers the proof did not close.
     pub(crate) fn check_load_count(&self) -> Result<(), Fault>
         ensures { Checked (bad_load_count self.now.layout self.now.bytes.now) result }
     {
@@ -168,7 +168,8 @@ impl<'a> Headers<'a> {
         Ok(())
     }
 
-    // The first header of a segment that breaks each of the rules.
+    // The first header of a segment that breaks each of the rules. A function for each: what a search with a closure finds is known to a proof
+    // only where the search is all that a function does.
     fn bad_size(&self) -> Option<u32>
         ensures { FirstOf (phnum self.now.layout self.now.bytes.now) (BadSize self.now.layout self.now.bytes.now) result }
     {

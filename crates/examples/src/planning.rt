@@ -89,13 +89,13 @@ fn bytes_and_origins(rt: HostRuntime) -> Result<(), Fail> {
         [0x7f, 0x45, 0x4c, 0x46, 2, 1, 1, 0],
         "the file's header"
     );
-    assert!(rt; matches!(plan.origin(0x10003)?, Some(Origin::File(3))));
-    assert!(rt; matches!(plan.origin(0x11387)?, Some(Origin::Word(0))));
-    assert!(rt; matches!(plan.origin(0x12007)?, Some(Origin::Word(1))));
-    assert!(rt; matches!(plan.origin(0x11600)?, Some(Origin::Inside)));
-    assert!(rt; matches!(plan.origin(0x10200)?, Some(Origin::Around)));
-    assert!(rt; matches!(plan.origin(0x12200)?, Some(Origin::Around)));
-    assert!(rt; plan.origin(0x13000)?.is_none());
+    assert_eq!(rt; plan.origin(0x10003)?, Some(Origin::File(3)));
+    assert_eq!(rt; plan.origin(0x11387)?, Some(Origin::Word(0)));
+    assert_eq!(rt; plan.origin(0x12007)?, Some(Origin::Word(1)));
+    assert_eq!(rt; plan.origin(0x11600)?, Some(Origin::Inside));
+    assert_eq!(rt; plan.origin(0x10200)?, Some(Origin::Around));
+    assert_eq!(rt; plan.origin(0x12200)?, Some(Origin::Around));
+    assert_eq!(rt; plan.origin(0x13000)?, None);
     Ok(())
 }
 
@@ -110,7 +110,7 @@ fn the_last_relocation_decides(rt: HostRuntime) -> Result<(), Fail> {
     let mut word = [1u8; 8];
     plan.bytes(0x11380, &mut word)?;
     assert_eq!(rt; word, [0, 1, 1, 0, 0, 0, 0, 0]);
-    assert!(rt; matches!(plan.origin(0x11380)?, Some(Origin::Word(1))));
+    assert_eq!(rt; plan.origin(0x11380)?, Some(Origin::Word(1)));
     Ok(())
 }
 

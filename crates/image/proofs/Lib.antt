@@ -6,4 +6,3 @@ pub mod Puts
 pub mod Assembles
 pub mod Counts
 pub mod Traces
-pub mod Lasts

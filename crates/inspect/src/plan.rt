@@ -61,8 +61,8 @@ impl<R: Print> Report<'_, R> {
         self.rt.println(
             "    pages from            to   count  rights   memory from     bytes   file from     bytes",
         )?;
-        for segment in (0..segments.count()).filter_map(|i| segments.get(i)) {
-            print_segment(self.rt, &segment)?;
+        for segment in segments.as_slice() {
+            print_segment(self.rt, segment)?;
         }
         Ok(())
     }
@@ -122,11 +122,7 @@ impl fmt::Display for Line<'_> {
 fn continues(before: &Option<Origin>, after: &Option<Origin>) -> bool {
     match (*before, *after) {
         (Some(Origin::File(a)), Some(Origin::File(b))) => a.checked_add(1) == Some(b),
-        (Some(Origin::Word(a)), Some(Origin::Word(b))) => a == b,
-        (Some(Origin::Inside), Some(Origin::Inside)) => true,
-        (Some(Origin::Around), Some(Origin::Around)) => true,
-        (None, None) => true,
-        _ => false,
+        (before, after) => before == after,
     }
 }
 

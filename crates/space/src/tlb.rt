@@ -52,7 +52,8 @@ impl<'s, S: Space> Space for Tlb<'s, S> {
         self.entries = [None; 16];
     }
 
-    // After a look at a mapped page an entry holds it, and at most one entry has changed.
+    // After a look at a mapped page an entry holds it, and at most one entry has changed. An impl that says more than its trait says that again,
+    // and cannot name the trait's own members there.
     fn look(&mut self, page: u32) -> Option<Mapping>
         ensures step { Step (λ t. Valid S.Space.valid S.Space.meaning t.below.now t.entries) (λ t. S.Space.meaning t.below.now) self.old self.new (Looks page result) }
         ensures holds { (h : Translation) → result ≡ Some h → Holds self.new.entries page h }

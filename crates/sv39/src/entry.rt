@@ -42,7 +42,7 @@ pub enum Entry {
     Leaf(Leaf),
 }
 
-// How a walk ends.
+// How a walk ends. A level is a number: what a leaf spans and where an address indexes a table are sums and powers of it.
 #[derive(Clone, Copy, PartialEq, Eq, Debug)]
 pub enum Walk {
     // At a leaf of this level; level 0 is the last.

@@ -5,7 +5,8 @@ ghost use Rattle.sv39.specs.Walks.{le, Inside, Finds, Ends};
 
 use crate::entry::{Entry, Leaf, Walk, is_malformed, is_pointing, page_in, rights_in};
 
-// The eight bytes from a place on as a number, lowest byte first.
+// The eight bytes from a place on as a number, lowest byte first. The file reader has its own: shared, it would be public and could not ask for
+// bytes that are there.
 pub(crate) fn u64_at(bytes: &[u8], at: usize) -> u64
     requires { at + 8 ≤ length bytes.now }
     ensures { result ≡ le bytes.now at 8 }

@@ -2,7 +2,7 @@ use Rattle.std.proofs.Common.{rules}
 use borrow.Author.Tests.{tests}
 use Rattle.elf.specs.Layouts.{elf64}
 use Rattle.elf.specs.Segments.{Load, header, phnum}
-use Rattle.image.proofs.Lasts.{highest_found}
+use Rattle.elf.proofs.Lasts.{highest_found}
 use Rattle.image.proofs.checked.Checked.last_load.Goals as goal
 
 pub returns : goal.returns

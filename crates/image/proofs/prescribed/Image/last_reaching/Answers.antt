@@ -4,7 +4,7 @@ use Rattle.elf.specs.Layouts.{elf64}
 use Rattle.elf.specs.Dynamic.{relocation_table}
 use Rattle.elf.specs.declared.records.Table.{Table}
 use Rattle.image.specs.Origins.{Reaches}
-use Rattle.image.proofs.Lasts.{highest_found}
+use Rattle.elf.proofs.Lasts.{highest_found}
 use Rattle.image.proofs.prescribed.Image.last_reaching.Goals as goal
 
 pub returns : goal.returns
