@@ -1,5 +1,5 @@
 -- What a search over a range of numbers finds, where each test decides a fact. Assumes nothing.
-use Rattle.std.proofs.Common.{◌≡◌, ℕ, ◌<◌, ◌≤◌, Bool, true, false, List, Option, Some, None, MatchOption, Ok, Err, Result, refl, arith, subst, sym}
+use Rattle.std.proofs.Common.{◌≡◌, ℕ, ◌<◌, ◌≤◌, Bool, true, false, List, Option, Some, None, MatchOption, Ok, Err, Result, arith, subst, sym}
 use denote.Param.Members.{Mut}
 use denote.Ref.{Bor}
 use Rattle.std.specs.declared.ops.Range.{Range}
@@ -12,9 +12,9 @@ use Rattle.std.proofs.lemmas.Iterator.{first_from_Range}
 use Rattle.faults.specs.Rules.{Checked}
 use Rattle.faults.specs.declared.fault.Fault.{Fault}
 use Rattle.faults.specs.declared.fault.Reason.{Reason}
-use Rattle.faults.specs.declared.fault.Layer.TheVariants.{Open}
 use Rattle.elf.specs.Searches.{FirstOf}
-use Rattle.elf.specs.Segments.{on_each, offset_in}
+use Rattle.elf.specs.Segments.{on_each}
+use Rattle.elf.specs.Stages.{Tested}
 use Rattle.elf.specs.declared.records.Table.{Table}
 
 -- The range began at 0, so what was found is the first of all below its end.
@@ -25,10 +25,18 @@ first_of_all a n P (Some i) e some = record { within = some.1; fits = some.2; lo
 pub found_first : {F : Type 0} {g : Mut F (Bor ℕ × Unit {0}) Bool} (s u : Range ℕ) (f : F) (r : Option ℕ) (P : ℕ → Type 0) → s.start ≡ 0 → (xs : List ℕ) × (j : F) × YieldsThen nat_range_steps s xs r u × FoldsTo (λ p x q. CalledAt g p x false q) f xs j × MatchOption r ⊤ (λ x. (h : F) × CalledAt g j x true h) → ((x : ℕ) (q : F) → CalledAt g f x true q → P x) → ((x : ℕ) (q : F) → CalledAt g f x false q → (q ≡ f) × (P x → ⊥)) → FirstOf s.end P r
 found_first s u f r P zero ran fits misses = first_of_all s.start s.end P r zero (first_from_Range s u f r P (λ i. P i → ⊥) ran fits misses)
 
--- A check of a rule on a table, by what a search among its records finds.
-pub checked_first : (why : Reason) (t : Table) (P : ℕ → Type 0) (r : Option ℕ) (x : Result (Unit {0}) Fault) → FirstOf t.count P r → MatchOption r (x ≡ Ok tt) (λ i. x ≡ Err (record { reason = why; layer = Open; «record» = i; place = offset_in t i })) → Checked (on_each why t P) x
-checked_first why t P None x none e = subst (Checked (on_each why t P)) (sym e) none
-checked_first why t P (Some i) x found e = subst (Checked (on_each why t P)) (sym e) (record { trial = i; within = found.within; fits = found.fits; lowest = found.lowest; fault = refl })
+-- A check of a rule on a table, by a test whose answers decide whether the rule fits a record.
+pub checked_by : (why : Reason) (t : Table) (P : ℕ → Type 0) (Gives : ℕ → Bool → Type 0) (r : Result (Unit {0}) Fault) → Tested why t Gives r → ((i : ℕ) → i < t.count → Gives i true → P i) → ((i : ℕ) → i < t.count → Gives i false → P i → ⊥) → Checked (on_each why t P) r
+checked_by why t P Gives (Ok x) none fits misses = λ i within fit. misses i within (none.answers i within) fit
+checked_by why t P Gives (Err f) some fits misses =
+    let a = some.answers in
+    record {
+      trial = a.0;
+      within = a.1;
+      fits = fits a.0 a.1 a.2;
+      lowest = λ j less fit. misses j (omega (arith, a.1, less)) (a.3 j less) fit;
+      fault = a.4;
+    }
 
 -- What `?` hands up of an option that is none.
 pub none_of : {T A : Type 0} (P : T → Type 0) {r : Option T} → r ≡ None → A → MatchOption r A P

@@ -1,7 +1,10 @@
 -- What is known of a file once rules have been tried, for the reader's own functions. Assumes nothing.
-use Rattle.std.specs.Prelude.{◌≡◌, ℕ, ◌+◌, ◌*◌, ◌<◌, ◌≤◌, true, List, length}
+use Rattle.std.specs.Prelude.{◌≡◌, ℕ, ◌+◌, ◌*◌, ◌<◌, ◌≤◌, Bool, true, false, List, length, Result, MatchResult}
+use Rattle.faults.specs.declared.fault.Fault.{Fault}
+use Rattle.faults.specs.declared.fault.Reason.{Reason}
+use Rattle.faults.specs.declared.fault.Layer.TheVariants.{Open}
 use Rattle.elf.specs.Layouts.{Sound}
-use Rattle.elf.specs.Segments.{Load, header, headers, phnum}
+use Rattle.elf.specs.Segments.{Load, header, headers, offset_in, phnum}
 use Rattle.elf.specs.Dynamic.{has_dynamic, dynamic_header}
 use Rattle.elf.specs.declared.layout.Layout.{Layout}
 use Rattle.elf.specs.declared.records.Table.{Table}
@@ -40,3 +43,8 @@ pub record Listed (l : Layout) (bytes : List ℕ) (width : ℕ) (t : Table) (i :
   pub size : t.size ≡ width
   pub inside : Inside t bytes
   pub within : i < t.count
+
+-- What a check of each record of a table answers, where Gives i b says that the test of the record i may answer b:
+-- no record is refused, or the first that is.
+pub record Tested (why : Reason) (t : Table) (Gives : ℕ → Bool → Type 0) (r : Result (Unit {0}) Fault) : Type 0 where
+  pub answers : MatchResult r (λ _. (i : ℕ) → i < t.count → Gives i false) (λ f. (i : ℕ) × (i < t.count) × Gives i true × ((j : ℕ) → j < i → Gives j false) × (f ≡ record { reason = why; layer = Open; «record» = i; place = offset_in t i }))

@@ -60,16 +60,10 @@ impl<'a> Headers<'a> {
         (0..self.count()).find(|j| self.is_other_dynamic(i, *j))
     }
 
-    fn bad_dynamic(&self) -> Option<u32>
-        ensures { FirstOf (phnum self.now.layout self.now.bytes.now) (BadDynamic self.now.layout self.now.bytes.now) result }
-    {
-        (0..self.count()).find(|i| self.is_bad_dynamic(*i))
-    }
-
     pub(crate) fn check_extent(&self) -> Result<(), Fault>
         ensures { Checked (on_each DynamicExtent (headers self.now.layout self.now.bytes.now) (BadDynamic self.now.layout self.now.bytes.now)) result }
     {
-        self.refuse(Reason::DynamicExtent, self.bad_dynamic())
+        self.refuse(Reason::DynamicExtent, |i| self.is_bad_dynamic(i))
     }
 
     // The number of a position-independent file's dynamic header.
@@ -188,16 +182,10 @@ impl<'a> Records<'a, DynamicEntry> {
         is_barred(&entry) || describes_table(&entry) && self.tagged(i, entry.tag).is_some()
     }
 
-    fn bad_tag(&self) -> Option<u32>
-        ensures { FirstOf self.now.table.count (BadTag self.now.headers.layout self.now.headers.bytes.now self.now.table) result }
-    {
-        (0..self.table.count).find(|i| self.is_bad_tag(*i))
-    }
-
     fn check(&self) -> Result<(), Fault>
         ensures { Checked (on_each DynamicTag self.now.table (BadTag self.now.headers.layout self.now.headers.bytes.now self.now.table)) result }
     {
-        self.refuse(Reason::DynamicTag, self.bad_tag())
+        self.refuse(Reason::DynamicTag, |i| self.is_bad_tag(i))
     }
 }
 

@@ -58,24 +58,12 @@ impl<'a> Records<'a, Relocation> {
             || self.headers.holding_word(r.offset).is_none()
     }
 
-    fn bad_kind(&self) -> Option<u32>
-        ensures { FirstOf self.now.table.count (BadKind self.now.headers.layout self.now.headers.bytes.now self.now.table) result }
-    {
-        (0..self.table.count).find(|i| self.has_bad_kind(*i))
-    }
-
-    fn bad_target(&self) -> Option<u32>
-        ensures { FirstOf self.now.table.count (BadTarget self.now.headers.layout self.now.headers.bytes.now self.now.table) result }
-    {
-        (0..self.table.count).find(|i| self.has_bad_target(*i))
-    }
-
     // The rules on the relocations of the table.
     fn check(&self) -> Result<(), Fault>
         ensures { Tried (on_each WrongType self.now.table (BadKind self.now.headers.layout self.now.headers.bytes.now self.now.table) ∷ on_each RelocationTarget self.now.table (BadTarget self.now.headers.layout self.now.headers.bytes.now self.now.table) ∷ []) result }
     {
-        self.refuse(Reason::RelocationType, self.bad_kind())?;
-        self.refuse(Reason::RelocationTarget, self.bad_target())
+        self.refuse(Reason::RelocationType, |i| self.has_bad_kind(i))?;
+        self.refuse(Reason::RelocationTarget, |i| self.has_bad_target(i))
     }
 }
 

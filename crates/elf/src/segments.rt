@@ -58,7 +58,7 @@ impl<'a> Headers<'a> {
     pub(crate) fn check_interpreter(&self) -> Result<(), Fault>
         ensures { Checked (on_each Interpreter (headers self.now.layout self.now.bytes.now) (Interprets self.now.layout self.now.bytes.now)) result }
     {
-        self.refuse(Reason::Interpreter, self.first_of(HeaderType::Interpreter))
+        self.refuse(Reason::Interpreter, |i| self.is(i, HeaderType::Interpreter))
     }
 
     // A loop: with `filter` and `count` over the numbers of headers the proof did not close.
@@ -168,46 +168,14 @@ impl<'a> Headers<'a> {
         Ok(())
     }
 
-    // The first header of a segment that breaks each of the rules. A function for each: what a search with a closure finds is known to a proof
-    // only where the search is all that a function does.
-    fn bad_size(&self) -> Option<u32>
-        ensures { FirstOf (phnum self.now.layout self.now.bytes.now) (BadSize self.now.layout self.now.bytes.now) result }
-    {
-        (0..self.count()).find(|i| self.has_bad_size(*i))
-    }
-
-    fn bad_alignment(&self) -> Option<u32>
-        ensures { FirstOf (phnum self.now.layout self.now.bytes.now) (BadAlign self.now.layout self.now.bytes.now) result }
-    {
-        (0..self.count()).find(|i| self.has_bad_alignment(*i))
-    }
-
-    fn bad_flags(&self) -> Option<u32>
-        ensures { FirstOf (phnum self.now.layout self.now.bytes.now) (BadFlags self.now.layout self.now.bytes.now) result }
-    {
-        (0..self.count()).find(|i| self.has_bad_flags(*i))
-    }
-
-    fn bad_end(&self) -> Option<u32>
-        ensures { FirstOf (phnum self.now.layout self.now.bytes.now) (BadEnd self.now.layout self.now.bytes.now) result }
-    {
-        (0..self.count()).find(|i| self.has_bad_end(*i))
-    }
-
-    fn out_of_order(&self) -> Option<u32>
-        ensures { FirstOf (phnum self.now.layout self.now.bytes.now) (BadOrder self.now.layout self.now.bytes.now) result }
-    {
-        (0..self.count()).find(|i| self.is_out_of_order(*i))
-    }
-
     pub(crate) fn check_segments(&self) -> Result<(), Fault>
         ensures { Tried (segment_rules self.now.layout self.now.bytes.now) result }
     {
-        self.refuse(Reason::SegmentSize, self.bad_size())?;
-        self.refuse(Reason::SegmentAlignment, self.bad_alignment())?;
-        self.refuse(Reason::SegmentFlags, self.bad_flags())?;
-        self.refuse(Reason::SegmentEnd, self.bad_end())?;
-        self.refuse(Reason::SegmentOrder, self.out_of_order())?;
+        self.refuse(Reason::SegmentSize, |i| self.has_bad_size(i))?;
+        self.refuse(Reason::SegmentAlignment, |i| self.has_bad_alignment(i))?;
+        self.refuse(Reason::SegmentFlags, |i| self.has_bad_flags(i))?;
+        self.refuse(Reason::SegmentEnd, |i| self.has_bad_end(i))?;
+        self.refuse(Reason::SegmentOrder, |i| self.is_out_of_order(i))?;
         self.check_entry()
     }
 }

@@ -1,9 +1,8 @@
 // A file on its way through the rules: each type carries what the rules before have found.
-ghost use Rattle.std.specs.Prelude.{◌≡◌, ℕ, ◌<◌, MatchOption, Ok, Err};
-ghost use Rattle.faults.specs.declared.fault.Layer.TheVariants.{Open};
+ghost use Rattle.std.specs.Prelude.{◌≡◌, ℕ, ◌<◌};
 ghost use Rattle.elf.specs.Layouts.{Sound, elf64};
 ghost use Rattle.elf.specs.Segments.{header, headers, offset_in, phnum};
-ghost use Rattle.elf.specs.Stages.{Inside, Headed, Readable, Extended};
+ghost use Rattle.elf.specs.Stages.{Inside, Headed, Readable, Extended, Tested};
 ghost use Rattle.elf.specs.Props.{layout_props};
 
 use crate::bytes::{u16_at, word_at};
@@ -104,11 +103,12 @@ impl<'a> Headers<'a> {
         self.records().get(i)
     }
 
-    // The refusal of a file for the header that a search has found.
-    pub(crate) fn refuse(&self, reason: Reason, found: Option<u32>) -> Result<(), Fault>
-        ensures { MatchOption found (result ≡ Ok tt) (λ i. result ≡ Err (record { reason = reason; layer = Open; «record» = i; place = offset_in (headers self.now.layout self.now.bytes.now) i })) }
+    // Refuses the file for the first header that a test fits.
+    pub(crate) fn refuse<F: Fn(u32) -> bool>(&self, reason: Reason, test: F) -> Result<(), Fault>
+        requires { (i : ℕ) → i < phnum self.now.layout self.now.bytes.now → F.pre test i }
+        ensures { Tested reason (headers self.now.layout self.now.bytes.now) (λ i b. F.post test i b) result }
     {
-        self.records().refuse(reason, found)
+        self.records().refuse(reason, test)
     }
 }
 
@@ -122,18 +122,21 @@ impl<'a, R: Record> Records<'a, R> {
         R::read(self.headers.layout, self.headers.bytes, at)
     }
 
-    // The refusal of a file for the record that a search has found.
-    pub(crate) fn refuse(&self, reason: Reason, found: Option<u32>) -> Result<(), Fault>
-        ensures { MatchOption found (result ≡ Ok tt) (λ i. result ≡ Err (record { reason = reason; layer = Open; «record» = i; place = offset_in self.now.table i })) }
+    // Refuses the file for the first record that a test fits.
+    pub(crate) fn refuse<F: Fn(u32) -> bool>(&self, reason: Reason, test: F) -> Result<(), Fault>
+        requires { (i : ℕ) → i < self.now.table.count → F.pre test i }
+        ensures { Tested reason self.now.table (λ i b. F.post test i b) result }
     {
-        let Some(i) = found else {
-            return Ok(());
-        };
-        Err(Fault {
-            reason,
-            layer: Layer::Open,
-            record: i,
-            place: self.table.first + self.table.size * i as u64,
-        })
+        for i in 0..self.table.count {
+            if test(i) {
+                return Err(Fault {
+                    reason,
+                    layer: Layer::Open,
+                    record: i,
+                    place: self.table.first + self.table.size * i as u64,
+                });
+            }
+        }
+        Ok(())
     }
 }
