@@ -1,5 +1,5 @@
 // Numbers stored lowest byte first.
-ghost use Rattle.std.specs.Prelude.{◌≡◌, ℕ, ◌+◌, ◌^◌, ◌<◌, ◌≤◌, ◌⊎◌, length, slice_index};
+ghost use Rattle.std.specs.Prelude.{◌≡◌, ℕ, ◌+◌, ◌^◌, ◌<◌, ◌≤◌, ◌⊎◌, length, Decides, slice_index};
 ghost use Rattle.elf.specs.Bytes.{le};
 
 // The bytes from an offset on.
@@ -12,7 +12,7 @@ fn bytes_at<const N: usize>(file: &[u8], at: usize) -> [u8; N]
     bytes
 }
 
-// One function for each width: `from_le_bytes` is a method of each type, and no trait has it.
+// One line for each width: a generic one would say what its type makes of the bytes, and each caller would have to show that this is `le`.
 pub(crate) fn u16_at(file: &[u8], at: usize) -> u16
     requires { at + 2 ≤ length file.now }
     ensures { result ≡ le file.now at 2 }
@@ -46,4 +46,11 @@ pub(crate) fn word_at(file: &[u8], at: usize, width: usize) -> u64
     } else {
         u64_at(file, at)
     }
+}
+
+// Whether the `length` bytes from `start` on hold the `size` bytes from `from` on.
+pub(crate) fn holds(start: u64, length: u64, from: u64, size: u64) -> bool
+    ensures { Decides result ((start ≤ from) × (from + size ≤ start + length)) }
+{
+    start <= from && size <= length && from - start <= length - size
 }

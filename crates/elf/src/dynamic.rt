@@ -1,13 +1,12 @@
 // The dynamic table of a position-independent file.
 ghost use Rattle.std.specs.Prelude.{◌≡◌, ℕ, ◌+◌, ◌*◌, ◌<◌, ◌≤◌, true, Decides, MatchOption, ◌≢◌};
-ghost use Rattle.faults.specs.Rules.{Answers, Checked};
+ghost use Rattle.faults.specs.Rules.{Checked};
 ghost use Rattle.faults.specs.declared.fault.Reason.TheVariants.{DynamicExtent, DynamicEnd, DynamicTag};
-ghost use Rattle.elf.specs.Segments.{file_type, header, headers, offset_in, once, on_each, phnum};
+ghost use Rattle.elf.specs.Segments.{file_type, headers, offset_in, once, on_each, phnum};
 ghost use Rattle.elf.specs.Searches.{FirstOf};
-ghost use Rattle.elf.specs.Stages.{Listed, Bounded};
 ghost use Rattle.elf.specs.Dynamic.{OtherDynamic, BadExtent, BadDynamic, has_dynamic, dynamic_header, dynamic_table, entry_in, entries, Endless, Barred, Describes, BadTag};
 
-use crate::bytes::u16_at;
+use crate::bytes::{holds, u16_at};
 use crate::identity::refusal;
 use crate::kinds::{FileType, HeaderType, Tag};
 use crate::records::{DynamicEntry, ProgramHeader, Table};
@@ -19,7 +18,7 @@ impl<'a> Headers<'a> {
     fn is_independent(&self) -> bool
         ensures { Decides result (file_type self.now.bytes.now ≡ 3) }
     {
-        u16_at(self.bytes, 16) == FileType::Independent as u16
+        u16_at(self.bytes, 16) == u16::from(FileType::Independent)
     }
 
     fn has_bad_extent(&self, h: &ProgramHeader) -> bool
@@ -28,8 +27,7 @@ impl<'a> Headers<'a> {
         let length = self.bytes.len() as u64;
         h.filesz > self.layout.limits.dynamic
             || h.filesz % self.layout.dynamic as u64 != 0
-            || h.filesz > length
-            || h.offset > length - h.filesz
+            || !holds(0, length, h.offset, h.filesz)
     }
 
     // Whether the header `j` is a dynamic header of another number than `i`.
@@ -78,15 +76,14 @@ impl<'a> Headers<'a> {
 }
 
 impl<'a> Dynamics<'a> {
-    // The entries that the dynamic header has room for.
-    fn table(&self, i: u32) -> Records<'a, DynamicEntry>
-        requires { (has_dynamic self.now.headers.layout self.now.headers.bytes.now ≡ true) × (i ≡ dynamic_header self.now.headers.layout self.now.headers.bytes.now) }
-        ensures same { result.headers ≡ self.now.headers }
-        ensures table { result.table ≡ dynamic_table self.now.headers.layout self.now.headers.bytes.now }
+    // The entries that the dynamic header has room for, where the file has one.
+    fn table(&self) -> Option<Records<'a, DynamicEntry>>
+        ensures { MatchOption result (has_dynamic self.now.headers.layout self.now.headers.bytes.now ≢ true) (λ t. (has_dynamic self.now.headers.layout self.now.headers.bytes.now ≡ true) × (t.headers ≡ self.now.headers) × (t.table ≡ dynamic_table self.now.headers.layout self.now.headers.bytes.now)) }
     {
+        let i = self.headers.dynamic_header()?;
         let h = self.headers.get(i);
         let size = self.headers.layout.dynamic as u64;
-        Records {
+        Some(Records {
             headers: self.headers,
             table: Table {
                 first: h.offset,
@@ -94,7 +91,7 @@ impl<'a> Dynamics<'a> {
                 count: (h.filesz / size) as u32,
             },
             kind: PhantomData,
-        }
+        })
     }
 
     // The entries that are read: those before the first of tag 0.
@@ -102,25 +99,19 @@ impl<'a> Dynamics<'a> {
         ensures same { result.headers ≡ self.now.headers }
         ensures table { result.table ≡ entries self.now.headers.layout self.now.headers.bytes.now }
     {
-        let size = self.headers.layout.dynamic as u64;
-        let Some(i) = self.headers.dynamic_header() else {
+        let Some(all) = self.table() else {
             return Records {
                 headers: self.headers,
-                table: Table {
-                    first: 0,
-                    size,
-                    count: 0,
-                },
+                table: Table::none(self.headers.layout.dynamic),
                 kind: PhantomData,
             };
         };
-        let all = self.table(i);
-        let end = all.tagged(all.table.count, Tag::Null.number());
+        let end = all.tagged(all.table.count, u64::from(Tag::Null));
         Records {
             headers: self.headers,
             table: Table {
                 first: all.table.first,
-                size,
+                size: self.headers.layout.dynamic as u64,
                 count: end.unwrap_or(all.table.count),
             },
             kind: PhantomData,
@@ -132,17 +123,16 @@ impl<'a> Dynamics<'a> {
         ensures { MatchOption result (has_dynamic self.now.headers.layout self.now.headers.bytes.now ≢ true) (λ p. (has_dynamic self.now.headers.layout self.now.headers.bytes.now ≡ true) × (p ≡ offset_in (headers self.now.headers.layout self.now.headers.bytes.now) (dynamic_header self.now.headers.layout self.now.headers.bytes.now))) }
     {
         let i = self.headers.dynamic_header()?;
-        let table = self.headers.table();
-        Some(table.first + table.size * i as u64)
+        Some(self.headers.table().offset(i))
     }
 
     fn is_endless(&self) -> bool
         ensures { Decides result (Endless self.now.headers.layout self.now.headers.bytes.now) }
     {
-        let Some(i) = self.headers.dynamic_header() else {
+        let Some(all) = self.table() else {
             return false;
         };
-        self.entries().table.count == self.table(i).table.count
+        self.entries().table.count == all.table.count
     }
 
     pub(crate) fn check_end(&self) -> Result<(), Fault>

@@ -2,7 +2,7 @@
 ghost use Rattle.std.specs.Prelude.{◌≡◌, ℕ, ◌+◌, ◌*◌, ◌<◌, ◌≤◌, length, MatchOption, ◌≢◌, slice_index};
 ghost use Rattle.faults.specs.Rules.{Answers, Checked, Tried};
 ghost use Rattle.elf.specs.Searches.{Lowest};
-ghost use Rattle.elf.specs.Segments.{bad_length, bad_magic, bad_identity, identity_rules, kind_rules, size_rules, bad_count, past_end, bad_load_count, table_rules, phnum};
+ghost use Rattle.elf.specs.Segments.{bad_length, bad_magic, bad_identity, identity_rules, kind_rules, size_rules, bad_count, past_end, table_rules, phnum};
 
 use crate::bytes::{u16_at, u32_at, word_at};
 use crate::kinds::{FileType, HeaderType};
@@ -123,7 +123,8 @@ impl<'a> HeadedFile<'a> {
         Ok(())
     }
 
-    // Reads every program header, and refuses the file where its end cuts one short.
+    // Reads every program header, and refuses the file where its end cuts one short. Headers come from a reader and the first that is cut short
+    // is refused where it is met: that is a rule of the project, so there is a loop and no chain.
     fn check_inside(&self) -> Result<(), Fault>
         requires { 0 < phnum self.now.layout self.now.bytes.now }
         ensures { Checked (past_end self.now.layout self.now.bytes.now) result }

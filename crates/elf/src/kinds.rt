@@ -40,11 +40,35 @@ pub enum Tag {
     Relr = 36,
 }
 
-impl Tag {
-    pub(crate) fn number(self) -> u64
-        ensures { result ≡ tag_number self }
-    {
-        self as u64
+impl From<FileType> for u16 {
+    ghost from_gives = { λ kind number. number ≡ file_number kind };
+
+    fn from(kind: FileType) -> u16 {
+        kind as u16
+    }
+}
+
+impl From<HeaderType> for u32 {
+    ghost from_gives = { λ header number. number ≡ header_number header };
+
+    fn from(header: HeaderType) -> u32 {
+        header as u32
+    }
+}
+
+impl From<RelocationType> for u32 {
+    ghost from_gives = { λ relocation number. number ≡ relocation_number relocation };
+
+    fn from(relocation: RelocationType) -> u32 {
+        relocation as u32
+    }
+}
+
+impl From<Tag> for u64 {
+    ghost from_gives = { λ tag number. number ≡ tag_number tag };
+
+    fn from(tag: Tag) -> u64 {
+        tag as u64
     }
 }
 
@@ -53,7 +77,7 @@ impl FileHeader {
     pub fn is(&self, kind: FileType) -> bool
         ensures { Decides result (self.now.kind ≡ file_number kind) }
     {
-        self.kind == kind as u16
+        self.kind == u16::from(kind)
     }
 }
 
@@ -62,7 +86,7 @@ impl ProgramHeader {
     pub fn is(&self, header: HeaderType) -> bool
         ensures { Decides result (self.now.kind ≡ header_number header) }
     {
-        self.kind == header as u32
+        self.kind == u32::from(header)
     }
 }
 
@@ -71,7 +95,7 @@ impl Relocation {
     pub fn is(&self, relocation: RelocationType) -> bool
         ensures { Decides result (self.now.kind ≡ relocation_number relocation) }
     {
-        self.kind == relocation as u32
+        self.kind == u32::from(relocation)
     }
 }
 
@@ -80,6 +104,6 @@ impl DynamicEntry {
     pub fn is(&self, tag: Tag) -> bool
         ensures { Decides result (self.now.tag ≡ tag_number tag) }
     {
-        self.tag == tag.number()
+        self.tag == u64::from(tag)
     }
 }

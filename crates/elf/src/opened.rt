@@ -1,15 +1,15 @@
 // The checks of a file in their order, and the opened file.
-ghost use Rattle.std.specs.Prelude.{◌≡◌, ℕ, ◌+◌, ◌*◌, ◌<◌, ◌≤◌, length, Decides, MatchOption};
+ghost use Rattle.std.specs.Prelude.{◌≡◌, ℕ, ◌+◌, ◌*◌, ◌<◌, ◌≤◌, length, MatchOption};
 ghost use Rattle.faults.specs.Rules.{Answers, Tried, Decided, InTurn};
-ghost use Rattle.elf.specs.Layouts.{Sound, elf64};
+ghost use Rattle.elf.specs.Layouts.{elf64};
 ghost use Rattle.elf.specs.Records.{file_header, relocation_at};
 ghost use Rattle.elf.specs.Segments.{header};
 ghost use Rattle.elf.specs.Stages.{Readable};
 ghost use Rattle.elf.specs.Dynamic.{dynamic_table, entry_in, relocation_in, format_rules, relocation_rules, open_rules};
 ghost use Rattle.elf.specs.Files.{HasHeader, HasEntry, Listing};
-ghost use Rattle.elf.specs.declared.records.Table.{Table as Records};
+ghost use Rattle.elf.specs.declared.records.Table.{Table as Span};
 
-use crate::bytes::{u16_at, word_at};
+use crate::bytes::{holds, u16_at, word_at};
 use crate::kinds::HeaderType;
 use crate::layout::ELF64;
 use crate::records::{
@@ -52,7 +52,7 @@ impl<'a> File<'a> {
             return None;
         }
         let size = l.header.size as u64 * count as u64;
-        if size > length as u64 || first > length as u64 - size {
+        if !holds(0, length as u64, first, size) {
             return None;
         }
         Some(Headers {
@@ -73,22 +73,18 @@ impl<'a> File<'a> {
     {
         match self.check_format() {
             Ok(dynamics) => dynamics.relocation_table(),
-            Err(_) => Table {
-                first: 0,
-                size: self.layout.relocation as u64,
-                count: 0,
-            },
+            Err(_) => Table::none(self.layout.relocation),
         }
     }
 
     fn relocation(&self, i: u32) -> Option<Relocation>
-        ensures { (t : Records) × Listing self.now.layout self.now.bytes.now t × MatchOption result (t.count ≤ i) (λ x. (i < t.count) × (x ≡ relocation_in self.now.layout self.now.bytes.now t i)) }
+        ensures { (t : Span) × Listing self.now.layout self.now.bytes.now t × MatchOption result (t.count ≤ i) (λ x. (i < t.count) × (x ≡ relocation_in self.now.layout self.now.bytes.now t i)) }
     {
         let table = self.relocation_table();
         if i >= table.count {
             return None;
         }
-        let at = table.first as usize + table.size as usize * i as usize;
+        let at = table.offset(i) as usize;
         Some(Relocation::read(self.layout, self.bytes, at))
     }
 }
@@ -100,12 +96,12 @@ impl<'a> Headers<'a> {
         let d = self.first_of(HeaderType::Dynamic)?;
         let h = self.get(d);
         let size = self.layout.dynamic as u64;
+        let before = size * i as u64;
         let length = self.bytes.len() as u64;
-        if i as u64 >= h.filesz / size || h.offset > length {
+        if i as u64 >= h.filesz / size {
             return None;
         }
-        let before = size * i as u64;
-        if before + size > length - h.offset {
+        if !holds(0, length, h.offset, before + size) {
             return None;
         }
         let at = (h.offset + before) as usize;
@@ -201,7 +197,7 @@ impl<'a> Opened<'a> {
 
     // How many relocations there are.
     pub fn relocations(&self) -> u32
-        ensures count { (t : Records) × Listing elf64 self.now.file.now t × (result ≡ t.count) }
+        ensures count { (t : Span) × Listing elf64 self.now.file.now t × (result ≡ t.count) }
         ensures limit { result ≤ 65536 }
     {
         self.relocation_table().count
@@ -209,7 +205,7 @@ impl<'a> Opened<'a> {
 
     // The relocation `i`, where there is one.
     pub fn relocation(&self, i: u32) -> Option<Relocation>
-        ensures { (t : Records) × Listing elf64 self.now.file.now t × MatchOption result (t.count ≤ i) (λ x. (i < t.count) × (x ≡ relocation_in elf64 self.now.file.now t i)) }
+        ensures { (t : Span) × Listing elf64 self.now.file.now t × MatchOption result (t.count ≤ i) (λ x. (i < t.count) × (x ≡ relocation_in elf64 self.now.file.now t i)) }
     {
         File::elf64(self.file).relocation(i)
     }

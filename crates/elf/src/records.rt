@@ -3,6 +3,8 @@ ghost use Rattle.std.specs.Prelude.{◌≡◌, ℕ, ◌+◌, ◌*◌, ◌^◌, �
 ghost use Rattle.elf.specs.Layouts.{Sound};
 ghost use Rattle.elf.specs.Bytes.{le};
 ghost use Rattle.elf.specs.Records.{file_header, header_at, entry_at, relocation_at, signed};
+ghost use Rattle.elf.specs.Segments.{offset_in};
+ghost use Rattle.elf.specs.Dynamic.{none};
 ghost use Rattle.elf.specs.Props.{layout_props, entry_small, relocation_small};
 ghost use Rattle.elf.specs.declared.layout.Layout.{Layout as Shape};
 
@@ -73,7 +75,8 @@ pub(crate) fn file_header(l: Layout, file: &[u8]) -> FileHeader
     }
 }
 
-// A record of one of a file's tables: how many bytes it has in a layout, and how it is read from them.
+// A record of one of a file's tables: how many bytes it has in a layout, and how it is read from them. Here layout and bytes stand apart: the types
+// that carry both are made on this reading.
 pub(crate) trait Record: Copy {
     ghost width: { Shape → ℕ };
 
@@ -183,5 +186,26 @@ impl<'a> HeaderReader<'a> {
         }
         self.at = end as u64;
         Some(ProgramHeader::read(self.layout, self.file, at))
+    }
+}
+
+impl Table {
+    // No records of this size.
+    pub(crate) fn none(size: usize) -> Table
+        ensures { result ≡ none size }
+    {
+        Table {
+            first: 0,
+            size: size as u64,
+            count: 0,
+        }
+    }
+
+    // Where the record `i` begins.
+    pub(crate) fn offset(&self, i: u32) -> u64
+        requires { self.now.first + self.now.size * i < 2 ^ 64 }
+        ensures { result ≡ offset_in self.now i }
+    {
+        self.first + self.size * i as u64
     }
 }

@@ -1,12 +1,12 @@
 // The rules on the relocations.
 ghost use Rattle.std.specs.Prelude.{◌≡◌, ℕ, ◌+◌, ◌*◌, ◌<◌, ◌≤◌, Decides, [], ◌∷◌};
-ghost use Rattle.faults.specs.Rules.{Checked, Tried};
+ghost use Rattle.faults.specs.Rules.{Tried};
 ghost use Rattle.faults.specs.declared.fault.Reason.TheVariants.{RelocationType as WrongType, RelocationTarget};
 ghost use Rattle.elf.specs.Segments.{on_each, phnum};
 ghost use Rattle.elf.specs.Searches.{FirstOf};
-ghost use Rattle.elf.specs.Stages.{Listed};
-ghost use Rattle.elf.specs.Dynamic.{relocation_in, relocation_table, BadKind, BadTarget, Writable, relocation_rules};
+ghost use Rattle.elf.specs.Dynamic.{relocation_table, BadKind, BadTarget, Writable, relocation_rules};
 
+use crate::bytes::holds;
 use crate::kinds::{HeaderType, RelocationType};
 use crate::records::Relocation;
 use crate::stages::{Dynamics, Headers, Records};
@@ -21,11 +21,7 @@ impl<'a> Headers<'a> {
     {
         let h = self.get(i);
         let word = self.layout.word as u64;
-        h.is(HeaderType::Load)
-            && h.flags / 2 % 2 == 1
-            && h.vaddr <= address
-            && h.memsz >= word
-            && address - h.vaddr <= h.memsz - word
+        h.is(HeaderType::Load) && h.flags / 2 % 2 == 1 && holds(h.vaddr, h.memsz, address, word)
     }
 
     // The first writable segment whose memory holds the word at an address.

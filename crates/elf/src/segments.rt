@@ -6,7 +6,7 @@ ghost use Rattle.elf.specs.Searches.{SomeBelow, FirstOf, Highest};
 ghost use Rattle.elf.specs.Kinds.{header_number};
 ghost use Rattle.elf.specs.Segments.{PowerOfTwo, Load, Interprets, BadSize, BadAlign, Misaligned, BadFlags, BadEnd, BadOrder, Executable, BadEntry, bad_load_count, segment_rules, once, on_each, header, headers, phnum};
 
-use crate::bytes::word_at;
+use crate::bytes::{holds, word_at};
 use crate::identity::refusal;
 use crate::kinds::HeaderType;
 use crate::layout::PAGE;
@@ -85,10 +85,7 @@ impl<'a> Headers<'a> {
         let h = self.get(i);
         let length = self.bytes.len() as u64;
         h.is(HeaderType::Load)
-            && (h.memsz == 0
-                || h.filesz > h.memsz
-                || h.filesz > length
-                || h.offset > length - h.filesz)
+            && (h.memsz == 0 || h.filesz > h.memsz || !holds(0, length, h.offset, h.filesz))
     }
 
     fn has_bad_alignment(&self, i: u32) -> bool
@@ -139,10 +136,7 @@ impl<'a> Headers<'a> {
         ensures { Decides result (Executable self.now.layout self.now.bytes.now address i) }
     {
         let h = self.get(i);
-        h.is(HeaderType::Load)
-            && h.flags % 2 == 1
-            && h.vaddr <= address
-            && address - h.vaddr < h.memsz
+        h.is(HeaderType::Load) && h.flags % 2 == 1 && holds(h.vaddr, h.memsz, address, 1)
     }
 
     // The first header of a segment that is executable and whose memory holds the address.

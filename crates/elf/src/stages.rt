@@ -95,7 +95,8 @@ impl<'a> Headers<'a> {
         }
     }
 
-    // The program header `i`.
+    // The program header `i`. That it is below the count is asked here and by the tests of one header: it says something of the argument and
+    // nothing of the file, and a type for such numbers would have to be made where the bound stands now.
     pub(crate) fn get(&self, i: u32) -> ProgramHeader
         requires { i < phnum self.now.layout self.now.bytes.now }
         ensures { result ≡ header self.now.layout self.now.bytes.now i }
@@ -118,7 +119,7 @@ impl<'a, R: Record> Records<'a, R> {
         requires { i < self.now.table.count }
         ensures { result ≡ R.reads self.now.headers.layout self.now.headers.bytes.now (offset_in self.now.table i) }
     {
-        let at = self.table.first as usize + self.table.size as usize * i as usize;
+        let at = self.table.offset(i) as usize;
         R::read(self.headers.layout, self.headers.bytes, at)
     }
 
@@ -133,7 +134,7 @@ impl<'a, R: Record> Records<'a, R> {
                     reason,
                     layer: Layer::Open,
                     record: i,
-                    place: self.table.first + self.table.size * i as u64,
+                    place: self.table.offset(i),
                 });
             }
         }

@@ -1,13 +1,14 @@
 // The relocation table of a position-independent file.
-ghost use Rattle.std.specs.Prelude.{◌≡◌, ℕ, ◌+◌, ◌*◌, ◌<◌, ◌≤◌, true, Decides, MatchOption};
-ghost use Rattle.faults.specs.Rules.{Answers, Checked, Tried};
+ghost use Rattle.std.specs.Prelude.{◌≡◌, ℕ, ◌+◌, ◌*◌, ◌<◌, ◌≤◌, Decides, MatchOption};
+ghost use Rattle.faults.specs.Rules.{Answers, Checked};
 ghost use Rattle.faults.specs.declared.fault.Reason.TheVariants.{RelocationTable};
 ghost use Rattle.elf.specs.Kinds.{tag_number};
-ghost use Rattle.elf.specs.Segments.{header, headers, offset_in, once, phnum};
-ghost use Rattle.elf.specs.Searches.{SomeBelow, FirstOf};
+ghost use Rattle.elf.specs.Segments.{headers, offset_in, once, phnum};
+ghost use Rattle.elf.specs.Searches.{FirstOf};
 ghost use Rattle.elf.specs.Stages.{Bounded};
-ghost use Rattle.elf.specs.Dynamic.{dynamic_header, entries, Stands, value_of, HoldsFileBytes, BadSizes, BadFigures, BadTable, dynamic_rules, relocation_table, none};
+ghost use Rattle.elf.specs.Dynamic.{dynamic_header, Stands, value_of, HoldsFileBytes, BadSizes, BadFigures, BadTable, dynamic_rules, relocation_table, none};
 
+use crate::bytes::holds;
 use crate::identity::refusal;
 use crate::kinds::{HeaderType, Tag};
 use crate::records::Table;
@@ -21,10 +22,7 @@ impl<'a> Headers<'a> {
         ensures { Decides result (HoldsFileBytes self.now.layout self.now.bytes.now address size i) }
     {
         let h = self.get(i);
-        h.is(HeaderType::Load)
-            && h.vaddr <= address
-            && size <= h.filesz
-            && address - h.vaddr <= h.filesz - size
+        h.is(HeaderType::Load) && holds(h.vaddr, h.filesz, address, size)
     }
 
     // The first load segment whose file bytes hold some bytes.
@@ -69,7 +67,7 @@ impl<'a> Dynamics<'a> {
         ensures { MatchOption result (Stands self.now.headers.layout self.now.headers.bytes.now (tag_number tag) → ⊥) (λ v. Stands self.now.headers.layout self.now.headers.bytes.now (tag_number tag) × (v ≡ value_of self.now.headers.layout self.now.headers.bytes.now (tag_number tag))) }
     {
         let entries = self.entries();
-        let i = entries.tagged(entries.table.count, tag.number())?;
+        let i = entries.tagged(entries.table.count, u64::from(tag))?;
         Some(entries.get(i).value)
     }
 
@@ -104,11 +102,8 @@ impl<'a> Dynamics<'a> {
     pub(crate) fn relocation_table(&self) -> Table
         ensures { result ≡ relocation_table self.now.headers.layout self.now.headers.bytes.now }
     {
-        self.held_table().unwrap_or(Table {
-            first: 0,
-            size: self.headers.layout.relocation as u64,
-            count: 0,
-        })
+        self.held_table()
+            .unwrap_or(Table::none(self.headers.layout.relocation))
     }
 
     // The relocation table that the three tags describe and a segment holds.

@@ -1,12 +1,12 @@
-use Rattle.std.proofs.Common.{◌≡◌, ap, ◌∙◌}
+use Rattle.std.proofs.Common.{◌≡◌, refl, ap, ◌∙◌}
 use Rattle.elf.specs.Segments.{header}
 use Rattle.elf.specs.Dynamic.{dynamic_table, dynamic_header}
 use Rattle.elf.proofs.stages.Dynamics.table.Goals as goal
 
-pub returns-clause-table : goal.returns-clause-table
+pub returns : goal.returns
 unfolding dynamic_table
-returns-clause-table c =
+returns c =
     let l = c.args.self.now.headers.layout in
     let b = c.args.self.now.headers.bytes.now in
-    let h : c.get-h.result ≡ header l b (dynamic_header l b) = c.get-h.ensures ∙ ap (header l b) c.requires.1 in
-    rw h
+    let h : c.get-h.result ≡ header l b (dynamic_header l b) = c.get-h.ensures ∙ ap (header l b) c.in_ok-i.ensures.1 in
+    (c.in_ok-i.ensures.0, refl, rw h)

@@ -1,4 +1,5 @@
-use Rattle.std.proofs.Common.{◌+◌, ◌*◌, ◌/◌, ◌<◌, ◌≤◌, length, ◌∙◌, arith}
+use Rattle.std.proofs.Common.{◌+◌, ◌*◌, ◌/◌, ◌<◌, ◌≤◌, length, ◌∙◌, arith, ◌≡◌, true}
+use Rattle.std.proofs.lemmas.Bool.{both_ways}
 use Rattle.elf.proofs.Accessed.{header_absent, entry_figures, entry_found, entry_same}
 use Rattle.elf.proofs.Finds.{none_of}
 use Rattle.elf.proofs.stages.Headers.dynamic_entry.Goals as goal
@@ -12,10 +13,11 @@ returns-then-i-h c = λ has.
     let counted : c.args.i < c.get-h.result.filesz / c.args.self.now.layout.dynamic = p.0 in
     omega (arith, p.1)
 
-pub returns-then-before-size : goal.returns-then-before-size
-returns-then-before-size c = λ has.
+pub returns-then-not-holds : goal.returns-then-not-holds
+returns-then-not-holds c = λ has.
     let p = entry_figures c.args.self.now.layout c.args.self.now.bytes.now c.in_ok-d.d c.get-h.result c.in_ok-d.ensures c.get-h.ensures c.args.i has in
-    omega (arith, p.1)
+    let held : c.holds.result ≡ true = c.holds.ensures.1 (omega arith, omega (arith, p.1)) in
+    both_ways c.holds.result c.if-not-holds.true held
 
 pub returns : goal.returns
 returns c =
