@@ -1,5 +1,5 @@
 -- What a search over a range of numbers finds, where each test decides a fact. Assumes nothing.
-use Rattle.std.proofs.Common.{◌≡◌, ℕ, ◌<◌, ◌≤◌, Bool, true, false, List, Option, Some, None, MatchOption, Ok, Err, Result, arith, subst, sym}
+use Rattle.std.proofs.Common.{◌≡◌, ℕ, ◌<◌, ◌≤◌, Bool, true, false, List, Option, Some, None, MatchOption, Ok, Err, Result, arith, subst, sym, Decides, MatchResult, lit<}
 use denote.Param.Members.{Mut}
 use denote.Ref.{Bor}
 use Rattle.std.specs.declared.ops.Range.{Range}
@@ -12,8 +12,9 @@ use Rattle.std.proofs.lemmas.Iterator.{first_from_Range}
 use Rattle.faults.specs.Rules.{Checked}
 use Rattle.faults.specs.declared.fault.Fault.{Fault}
 use Rattle.faults.specs.declared.fault.Reason.{Reason}
+use Rattle.faults.specs.declared.fault.Layer.TheVariants.{Open}
 use Rattle.elf.specs.Searches.{FirstOf}
-use Rattle.elf.specs.Segments.{on_each}
+use Rattle.elf.specs.Segments.{once, on_each}
 use Rattle.elf.specs.Stages.{Tested}
 use Rattle.elf.specs.declared.records.Table.{Table}
 
@@ -37,6 +38,11 @@ checked_by why t P Gives (Err f) some fits misses =
       lowest = λ j less fit. misses j (omega (arith, a.1, less)) (a.3 j less) fit;
       fault = a.4;
     }
+
+-- A check of a rule that is tried once, where without the thing that it is about it does not fit.
+pub checked_once : (why : Reason) (at : ℕ) (P Has : Type 0) (b : Bool) (r : Result (Unit {0}) Fault) → Decides b P → ((Has → ⊥) → P → ⊥) → MatchResult r (λ _. b ≡ true → Has → ⊥) (λ f. (b ≡ true) × (f ≡ record { reason = why; layer = Open; «record» = 0; place = at })) → Checked (once why at P) r
+checked_once why at P Has b (Ok x) decides lacks none = λ i within fits. lacks (none (decides.1 fits)) fits
+checked_once why at P Has b (Err f) decides lacks some = record { trial = 0; within = lit< tt; fits = decides.0 some.0; lowest = λ j less. absurd (omega arith); fault = some.1 }
 
 -- What `?` hands up of an option that is none.
 pub none_of : {T A : Type 0} (P : T → Type 0) {r : Option T} → r ≡ None → A → MatchOption r A P

@@ -1,5 +1,6 @@
 // The dynamic table of a position-independent file.
-ghost use Rattle.std.specs.Prelude.{◌≡◌, ℕ, ◌+◌, ◌*◌, ◌<◌, ◌≤◌, true, Decides, MatchOption, ◌≢◌};
+ghost use Rattle.std.specs.Prelude.{◌≡◌, ℕ, ◌+◌, ◌*◌, ◌<◌, ◌≤◌, true, Decides, MatchOption, MatchResult, ◌≢◌};
+ghost use Rattle.faults.specs.declared.fault.Layer.TheVariants.{Open};
 ghost use Rattle.faults.specs.Rules.{Checked};
 ghost use Rattle.faults.specs.declared.fault.Reason.TheVariants.{DynamicExtent, DynamicEnd, DynamicTag};
 ghost use Rattle.elf.specs.Segments.{file_type, headers, offset_in, once, on_each, phnum};
@@ -126,6 +127,16 @@ impl<'a> Dynamics<'a> {
         Some(self.headers.table().offset(i))
     }
 
+    // Refuses the file at its dynamic header, where it has one and a rule fits it.
+    pub(crate) fn refuse_if(&self, fits: bool, reason: Reason) -> Result<(), Fault>
+        ensures { MatchResult result (λ _. fits ≡ true → has_dynamic self.now.headers.layout self.now.headers.bytes.now ≢ true) (λ f. (fits ≡ true) × (f ≡ record { reason = reason; layer = Open; «record» = 0; place = offset_in (headers self.now.headers.layout self.now.headers.bytes.now) (dynamic_header self.now.headers.layout self.now.headers.bytes.now) })) }
+    {
+        match self.place() {
+            Some(place) if fits => Err(refusal(reason, place)),
+            _ => Ok(()),
+        }
+    }
+
     fn is_endless(&self) -> bool
         ensures { Decides result (Endless self.now.headers.layout self.now.headers.bytes.now) }
     {
@@ -138,13 +149,7 @@ impl<'a> Dynamics<'a> {
     pub(crate) fn check_end(&self) -> Result<(), Fault>
         ensures { Checked (once DynamicEnd (offset_in (headers self.now.headers.layout self.now.headers.bytes.now) (dynamic_header self.now.headers.layout self.now.headers.bytes.now)) (Endless self.now.headers.layout self.now.headers.bytes.now)) result }
     {
-        let Some(place) = self.place() else {
-            return Ok(());
-        };
-        if self.is_endless() {
-            return Err(refusal(Reason::DynamicEnd, place));
-        }
-        Ok(())
+        self.refuse_if(self.is_endless(), Reason::DynamicEnd)
     }
 
     pub(crate) fn check_tags(&self) -> Result<(), Fault>

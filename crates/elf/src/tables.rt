@@ -9,7 +9,6 @@ ghost use Rattle.elf.specs.Stages.{Bounded};
 ghost use Rattle.elf.specs.Dynamic.{dynamic_header, Stands, value_of, HoldsFileBytes, BadSizes, BadFigures, BadTable, dynamic_rules, relocation_table, none};
 
 use crate::bytes::holds;
-use crate::identity::refusal;
 use crate::kinds::{HeaderType, Tag};
 use crate::records::Table;
 use crate::stages::{Dynamics, Headers};
@@ -89,13 +88,7 @@ impl<'a> Dynamics<'a> {
     fn check_table(&self) -> Result<(), Fault>
         ensures { Checked (once RelocationTable (offset_in (headers self.now.headers.layout self.now.headers.bytes.now) (dynamic_header self.now.headers.layout self.now.headers.bytes.now)) (BadTable self.now.headers.layout self.now.headers.bytes.now)) result }
     {
-        let Some(place) = self.place() else {
-            return Ok(());
-        };
-        if self.has_bad_table() {
-            return Err(refusal(Reason::RelocationTable, place));
-        }
-        Ok(())
+        self.refuse_if(self.has_bad_table(), Reason::RelocationTable)
     }
 
     // Where the relocations lie in the file.
