@@ -23,8 +23,9 @@ first_of_all : (a n : ℕ) (P : ℕ → Type 0) (r : Option ℕ) → a ≡ 0 →
 first_of_all a n P None e none = λ i within. none i (omega arith) within
 first_of_all a n P (Some i) e some = record { within = some.1; fits = some.2; lowest = λ j less. some.3 j (omega arith) less }
 
-pub found_first : {F : Type 0} {g : Mut F (Bor ℕ × Unit {0}) Bool} (s u : Range ℕ) (f : F) (r : Option ℕ) (P : ℕ → Type 0) → s.start ≡ 0 → (xs : List ℕ) × (j : F) × YieldsThen nat_range_steps s xs r u × FoldsTo (λ p x q. CalledAt g p x false q) f xs j × MatchOption r ⊤ (λ x. (h : F) × CalledAt g j x true h) → ((x : ℕ) (q : F) → CalledAt g f x true q → P x) → ((x : ℕ) (q : F) → CalledAt g f x false q → (q ≡ f) × (P x → ⊥)) → FirstOf s.end P r
-found_first s u f r P zero ran fits misses = first_of_all s.start s.end P r zero (first_from_Range s u f r P (λ i. P i → ⊥) ran fits misses)
+pub found_first : {F : Type 0} {g : Mut F (Bor ℕ × Unit {0}) Bool} (s u : Range ℕ) (f : F) (r : Option ℕ) (n : ℕ) (P : ℕ → Type 0) → s.start ≡ 0 → s.end ≡ n → (xs : List ℕ) × (j : F) × YieldsThen nat_range_steps s xs r u × FoldsTo (λ p x q. CalledAt g p x false q) f xs j × MatchOption r ⊤ (λ x. (h : F) × CalledAt g j x true h) → ((x : ℕ) (q : F) → CalledAt g f x true q → P x) → ((x : ℕ) (q : F) → CalledAt g f x false q → (q ≡ f) × (P x → ⊥)) → FirstOf n P r
+found_first s u f r n P zero end ran fits misses =
+    subst (λ m. FirstOf m P r) end (first_of_all s.start s.end P r zero (first_from_Range s u f r P (λ i. P i → ⊥) ran fits misses))
 
 -- A check of a rule on a table, by a test whose answers decide whether the rule fits a record.
 pub checked_by : (why : Reason) (t : Table) (P : ℕ → Type 0) (Gives : ℕ → Bool → Type 0) (r : Result (Unit {0}) Fault) → Tested why t Gives r → ((i : ℕ) → i < t.count → Gives i true → P i) → ((i : ℕ) → i < t.count → Gives i false → P i → ⊥) → Checked (on_each why t P) r

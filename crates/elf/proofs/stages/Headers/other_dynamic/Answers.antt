@@ -1,12 +1,10 @@
 use borrow.Author.Tests.{tests}
-use Rattle.std.proofs.Common.{rules, subst, refl, ℕ}
+use Rattle.std.proofs.Common.{rules, refl, ℕ}
 use Rattle.elf.specs.Dynamic.{OtherDynamic}
-use Rattle.elf.specs.Searches.{FirstOf}
 use Rattle.elf.proofs.Finds.{found_first}
 use Rattle.elf.proofs.stages.Headers.other_dynamic.Goals as goal
 
 pub returns : goal.returns
 returns c =
     let P : ℕ → Type 0 = OtherDynamic c.args.self.now.layout c.args.self.now.bytes.now c.args.i in
-    subst (λ (n : ℕ). FirstOf n P c.find.result) c.count.ensures
-    (found_first _ _ _ _ P refl c.find.ensures.ran (λ x q k. search (rules, tests)) (λ x q k. search (rules, tests)))
+    found_first _ _ _ _ _ P refl c.count.ensures c.find.ensures.ran (λ x q k. search (rules, tests)) (λ x q k. search (rules, tests))
