@@ -73,7 +73,8 @@ impl From<Tag> for u64 {
 }
 
 impl FileHeader {
-    // Whether the file is of a type.
+    // Whether the file is of a type. One line for each record, here and below: its field and the width of that are its own, and a trait for them
+    // would have more lines than it saves.
     pub fn is(&self, kind: FileType) -> bool
         ensures { Decides result (self.now.kind ≡ file_number kind) }
     {
