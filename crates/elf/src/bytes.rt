@@ -1,37 +1,29 @@
 // Numbers stored lowest byte first.
-ghost use Rattle.std.specs.Prelude.{◌≡◌, ℕ, ◌+◌, ◌^◌, ◌<◌, ◌≤◌, ◌⊎◌, length, Decides, slice_index};
+ghost use Rattle.std.specs.Prelude.{◌≡◌, ◌+◌, ◌^◌, ◌<◌, ◌≤◌, ◌⊎◌, length, Decides};
 ghost use Rattle.elf.specs.Bytes.{le};
 
-// The bytes from an offset on.
-fn bytes_at<const N: usize>(file: &[u8], at: usize) -> [u8; N]
-    requires { at + N ≤ length file.now }
-    ensures { (i : ℕ) → i < N → slice_index result i ≡ slice_index file.now (at + i) }
-{
-    let mut bytes = [0; N];
-    bytes.copy_from_slice(&file[at..at + N]);
-    bytes
-}
+use byteorder::{ByteOrder, LittleEndian};
 
-// One line for each width: a generic one would say what its type makes of the bytes, and each caller would have to show that this is `le`.
+// One line for each width, as the library has a method for each.
 pub(crate) fn u16_at(file: &[u8], at: usize) -> u16
     requires { at + 2 ≤ length file.now }
     ensures { result ≡ le file.now at 2 }
 {
-    u16::from_le_bytes(bytes_at(file, at))
+    LittleEndian::read_u16(&file[at..at + 2])
 }
 
 pub(crate) fn u32_at(file: &[u8], at: usize) -> u32
     requires { at + 4 ≤ length file.now }
     ensures { result ≡ le file.now at 4 }
 {
-    u32::from_le_bytes(bytes_at(file, at))
+    LittleEndian::read_u32(&file[at..at + 4])
 }
 
 pub(crate) fn u64_at(file: &[u8], at: usize) -> u64
     requires { at + 8 ≤ length file.now }
     ensures { result ≡ le file.now at 8 }
 {
-    u64::from_le_bytes(bytes_at(file, at))
+    LittleEndian::read_u64(&file[at..at + 8])
 }
 
 // A number of an address's width.
