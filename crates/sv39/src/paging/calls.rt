@@ -79,7 +79,7 @@ impl<'a> Space for Sv39<'a> {
     }
 
     fn clear(&mut self) {
-        // No leaf table: the figures were refused, and the memory stays as it is.
+        // A number and no option: `new` cannot fail, and the figures say by 0 that they were refused.
         if self.figures.leaves == 0 {
             return;
         }
