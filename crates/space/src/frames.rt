@@ -49,6 +49,7 @@ impl<'a> Frames<'a> {
         let spare = self.spare.checked_sub(1)?;
         let entries = &mut *self.entries;
         let next = entries.get(frame as usize).copied()?;
+        // By index, as in `give`: what get_mut lends is not known to a proof after the write.
         entries[frame as usize] = u32::MAX - page;
         self.head = next;
         self.spare = spare;

@@ -1,7 +1,7 @@
 -- Numbers stored in bytes, and what writes leave of them. Assumes nothing.
-use Rattle.std.proofs.Common.{◌≡◌, ℕ, zero, suc, ◌+◌, ◌-◌, ◌*◌, ◌^◌, ◌<◌, ◌≤◌, ◌⊎◌, List, get_or, take, drop, get_or-take, get_or-drop, refl, ap, ◌∙◌, zero-mul, arith, lit<}
-use Rattle.std.specs.Int.{w64, from_le_bytes, to_le_bytes}
-use Rattle.std.proofs.lemmas.Nat.{from_le_bytes-to_le_bytes_8}
+use Rattle.std.proofs.Common.{◌≡◌, ℕ, zero, suc, ◌+◌, ◌-◌, ◌*◌, ◌^◌, ◌<◌, ◌≤◌, ◌⊎◌, List, ◌++◌, get_or, take, drop, get_or-take, get_or-drop, refl, ap, ◌∙◌, zero-mul, arith, lit<}
+use Rattle.byteorder.specs.Endian.{little_number, little_bytes}
+use Rattle.byteorder.specs.Numbers.{little_number-reads_back}
 use Rattle.space.specs.Memory.{Apart, Zeroed}
 use Rattle.sv39.specs.Walks.{le}
 use Rattle.sv39.specs.Tables.{word}
@@ -25,15 +25,15 @@ cut xs ys zs s e n ys_is zs_is fits i h =
     ap (λ l. get_or l i 0) zs_is ∙ get_or-take n ys i 0 h ∙ ap (λ l. get_or l i 0) ys_is ∙ get_or-take (e - s) (drop s xs) i 0 (omega arith) ∙ get_or-drop s xs i 0
 
 -- Eight bytes stand for the number that the library reads from them.
-pub le_bytes : (xs bs : List ℕ) (at : ℕ) → ((i : ℕ) → i < 8 → get_or xs (at + i) 0 ≡ get_or bs i 0) → le xs at 8 ≡ from_le_bytes w64 bs
+pub le_bytes : (xs bs : List ℕ) (at : ℕ) → ((i : ℕ) → i < 8 → get_or xs (at + i) 0 ≡ get_or bs i 0) → le xs at 8 ≡ little_number 8 bs
 unfolding le
 le_bytes xs bs at same =
     omega (arith, same 0 (lit< tt), same 1 (lit< tt), same 2 (lit< tt), same 3 (lit< tt), same 4 (lit< tt), same 5 (lit< tt), same 6 (lit< tt), same 7 (lit< tt))
 
 -- A number's bytes are written to an entry.
-pub written : {k v : ℕ} {xs ys : List ℕ} → Apart (8 * k) 8 xs ys → ((i : ℕ) → i < 8 → get_or ys (8 * k + i) 0 ≡ get_or (to_le_bytes w64 v) i 0) → v < 2 ^ 64 → Written k v xs ys
-written {k} {v} {xs} {ys} apart bytes fits =
-    record { apart = apart; here = le_bytes ys (to_le_bytes w64 v) (8 * k) bytes ∙ from_le_bytes-to_le_bytes_8 v fits }
+pub written : {k v : ℕ} {xs ys rest : List ℕ} (bs : List ℕ) → Apart (8 * k) 8 xs ys → ((i : ℕ) → i < 8 → get_or ys (8 * k + i) 0 ≡ get_or bs i 0) → bs ≡ little_bytes 8 v ++ rest → v < 2 ^ 64 → Written k v xs ys
+written {k} {v} {xs} {ys} {rest} bs apart bytes number fits =
+    record { apart = apart; here = le_bytes ys bs (8 * k) bytes ∙ ap (little_number 8) number ∙ little_number-reads_back 8 v rest fits }
 
 -- An entry that a write does not meet stays.
 pub word_apart : {at n : ℕ} {xs ys : List ℕ} → Apart at n xs ys → (k : ℕ) → (8 * k + 8 ≤ at) ⊎ (at + n ≤ 8 * k) → word ys k ≡ word xs k

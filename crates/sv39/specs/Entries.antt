@@ -1,11 +1,23 @@
 -- What an entry of an Sv39 page table says. Assumes nothing.
 use Rattle.std.specs.Prelude.{◌≡◌, ℕ, ◌+◌, ◌*◌, ◌/◌, ◌%◌, ◌^◌, ◌<◌, ◌≤◌, ◌⊎◌}
+use Rattle.sv39.specs.declared.entry.Bit.{Bit}
+use Rattle.sv39.specs.declared.entry.Bit.TheVariants.{Valid, Read, Write, Execute, User, Accessed, Dirty}
 use Rattle.sv39.specs.declared.entry.Entry.{Entry}
 use Rattle.sv39.specs.declared.entry.Entry.TheVariants.{Zero, Invalid, Table, Leaf}
 
 -- Bit n of an entry: V 0, R 1, W 2, X 3, U 4, G 5, A 6, D 7.
 abbrev pub bit : ℕ → ℕ → ℕ
 bit n e = e / 2 ^ n % 2
+
+-- The number of a bit.
+abbrev pub bit_number : Bit → ℕ
+bit_number Valid = 0
+bit_number Read = 1
+bit_number Write = 2
+bit_number Execute = 3
+bit_number User = 4
+bit_number Accessed = 6
+bit_number Dirty = 7
 
 -- The physical page, in bits 10 to 53.
 abbrev pub page_in : ℕ → ℕ

@@ -1,26 +1,40 @@
 // The entries of Sv39 page tables, bit by bit.
 ghost use Rattle.std.specs.Prelude.{◌≡◌, ◌%◌, ◌^◌, ◌<◌, Decides};
-ghost use Rattle.sv39.specs.Entries.{bit, Malformed, Pointing, page_in, rights_in, pointer, leaf};
+ghost use Rattle.sv39.specs.Entries.{bit, bit_number, Malformed, Pointing, page_in, rights_in, pointer, leaf};
 
-// The bits V, R, W, X, U, A and D of an entry, and the first of the 44 bits of the physical page.
-const VALID: u32 = 0;
-
-const READ: u32 = 1;
-
-const WRITE: u32 = 2;
-
-const EXECUTE: u32 = 3;
-
-const USER: u32 = 4;
-
-const ACCESSED: u32 = 6;
-
-const DIRTY: u32 = 7;
-
-const PAGE: u32 = 10;
+// The number of the first of the 44 bits of the physical page.
+const PAGE_SHIFT: u32 = 10;
 
 // How many physical pages there are.
 const PAGES: u64 = 1 << 44;
+
+// The bits V, R, W, X, U, A and D of an entry, by their numbers.
+#[derive(Clone, Copy, PartialEq, Eq, Debug)]
+enum Bit {
+    Valid = 0,
+    Read = 1,
+    Write = 2,
+    Execute = 3,
+    User = 4,
+    Accessed = 6,
+    Dirty = 7,
+}
+
+impl Bit {
+    // The bit in an entry.
+    fn of(self, entry: u64) -> u64
+        ensures { result ≡ bit (bit_number self) entry }
+    {
+        nth_bit(entry, self as u32)
+    }
+
+    // The entry in which this bit alone is set.
+    fn alone(self) -> u64
+        ensures { result ≡ 2 ^ bit_number self }
+    {
+        1 << self as u32
+    }
+}
 
 // A physical page and the rights to it: 4 read, 2 write, 1 execute. They stay a number, since an entry may have any of the eight.
 #[derive(Clone, Copy, PartialEq, Eq, Debug)]
@@ -54,7 +68,7 @@ pub enum Walk {
 }
 
 // Bit n of a number.
-fn bit(number: u64, n: u32) -> u64
+fn nth_bit(number: u64, n: u32) -> u64
     requires { n < 64 }
     ensures { result ≡ bit n number }
 {
@@ -65,30 +79,30 @@ fn bit(number: u64, n: u32) -> u64
 pub fn page_in(entry: u64) -> u64
     ensures { result ≡ page_in entry }
 {
-    (entry >> PAGE) % PAGES
+    (entry >> PAGE_SHIFT) % PAGES
 }
 
 // The rights in an entry.
 pub fn rights_in(entry: u64) -> u8
     ensures { result ≡ rights_in entry }
 {
-    (4 * bit(entry, READ) + 2 * bit(entry, WRITE) + bit(entry, EXECUTE)) as u8
+    (4 * Bit::Read.of(entry) + 2 * Bit::Write.of(entry) + Bit::Execute.of(entry)) as u8
 }
 
 // Whether an entry has none of R, W and X.
 pub fn is_pointing(entry: u64) -> bool
     ensures { Decides result (Pointing entry) }
 {
-    bit(entry, READ) + bit(entry, WRITE) + bit(entry, EXECUTE) == 0
+    Bit::Read.of(entry) + Bit::Write.of(entry) + Bit::Execute.of(entry) == 0
 }
 
 // Whether the architecture has no meaning for an entry.
 pub fn is_malformed(entry: u64) -> bool
     ensures { Decides result (Malformed entry) }
 {
-    let used = bit(entry, USER) + bit(entry, ACCESSED) + bit(entry, DIRTY);
-    bit(entry, VALID) == 0
-        || (bit(entry, READ) == 0 && bit(entry, WRITE) == 1)
+    let used = Bit::User.of(entry) + Bit::Accessed.of(entry) + Bit::Dirty.of(entry);
+    Bit::Valid.of(entry) == 0
+        || (Bit::Read.of(entry) == 0 && Bit::Write.of(entry) == 1)
         || entry >= 1 << 54
         || (is_pointing(entry) && used > 0)
 }
@@ -98,7 +112,7 @@ pub fn is_malformed(entry: u64) -> bool
 pub fn pointer_to(page: u64) -> u64
     ensures { result ≡ pointer (page % 2 ^ 44) }
 {
-    (page % PAGES << PAGE) + (1 << VALID)
+    (page % PAGES << PAGE_SHIFT) + Bit::Valid.alone()
 }
 
 // The leaf of a physical page, which has 44 bits: U and A set, R, W and X as the rights say, D with W.
@@ -107,9 +121,9 @@ pub fn leaf_of(page: u64, rights: u8) -> u64
     ensures { result ≡ leaf (page % 2 ^ 44) rights }
 {
     let rights = u64::from(rights);
-    let read = bit(rights, 2) << READ;
-    let write = bit(rights, 1) * ((1 << WRITE) + (1 << DIRTY));
-    let execute = bit(rights, 0) << EXECUTE;
-    let always = (1 << VALID) + (1 << USER) + (1 << ACCESSED);
-    (page % PAGES << PAGE) + (always + read + write + execute)
+    let read = nth_bit(rights, 2) * Bit::Read.alone();
+    let write = nth_bit(rights, 1) * (Bit::Write.alone() + Bit::Dirty.alone());
+    let execute = nth_bit(rights, 0) * Bit::Execute.alone();
+    let always = Bit::Valid.alone() + Bit::User.alone() + Bit::Accessed.alone();
+    (page % PAGES << PAGE_SHIFT) + (always + read + write + execute)
 }

@@ -7,6 +7,7 @@ ghost use Rattle.sv39.specs.Writes.{Written, Built};
 use crate::entry::pointer_to;
 use crate::figures::Figures;
 use crate::walk::u64_at;
+use byteorder::{ByteOrder, LittleEndian};
 use space::memory::wipe;
 
 // The memory, which begins with the tables. Entries are counted over all tables, 512 to a table.
@@ -30,7 +31,7 @@ impl<'a> Tables<'a> {
         requires { 8 * k + 8 ≤ length self.old.memory.now }
         ensures { Written k value self.old.memory.now self.new.memory.now }
     {
-        self.memory[8 * k..8 * k + 8].copy_from_slice(&value.to_le_bytes());
+        LittleEndian::write_u64(&mut self.memory[8 * k..8 * k + 8], value);
     }
 
     // Makes n bytes zero.

@@ -4,16 +4,14 @@ ghost use Rattle.sv39.specs.Entries.{Says};
 ghost use Rattle.sv39.specs.Walks.{le, Inside, Finds, Ends};
 
 use crate::entry::{Entry, Leaf, Walk, is_malformed, is_pointing, page_in, rights_in};
+use byteorder::{ByteOrder, LittleEndian};
 
-// The eight bytes from a place on as a number, lowest byte first. The file reader has its own: shared, it would be public and could not ask for
-// bytes that are there.
+// The eight bytes from a place on as a number, lowest byte first.
 pub(crate) fn u64_at(bytes: &[u8], at: usize) -> u64
     requires { at + 8 ≤ length bytes.now }
     ensures { result ≡ le bytes.now at 8 }
 {
-    let mut word = [0; 8];
-    word.copy_from_slice(&bytes[at..at + 8]);
-    u64::from_le_bytes(word)
+    LittleEndian::read_u64(&bytes[at..at + 8])
 }
 
 // What an entry of a level says.

@@ -1,5 +1,5 @@
 // The calls on a space in Sv39 tables.
-ghost use Rattle.std.specs.Prelude.{◌≡◌, ◌+◌, ◌*◌, ◌<◌, ◌≤◌, MatchResult, OnErr};
+ghost use Rattle.std.specs.Prelude.{◌≡◌, ◌+◌, ◌*◌, ◌<◌, ◌≤◌, MatchOption, MatchResult, OnErr};
 ghost use Rattle.faults.specs.declared.fault.Layer.TheVariants.{Space as SpaceLayer};
 ghost use Rattle.faults.specs.declared.fault.Reason.TheVariants.{OutsideWindow};
 ghost use Rattle.faults.specs.Rules.{single, Hit, Answers};
@@ -22,14 +22,20 @@ fn page_refusal(reason: Reason, page: u32) -> Fault
 }
 
 impl<'a> Sv39<'a> {
-    // The number of a page's entry in the tables; refused where the page lies outside the window.
+    // The number of a page's entry in the tables, where the page lies in the window.
+    fn number(&self, page: u32) -> Option<usize>
+        ensures { MatchOption result (Outside (means self.now) page) (λ k. InWindow self.now page k) }
+    {
+        let j = page.checked_sub(self.figures.first())?;
+        (j < self.figures.count()).then_some(1024 + j as usize)
+    }
+
+    // The same; refused where the page lies outside the window.
     fn slot(&self, page: u32) -> Result<usize, Fault>
         ensures { MatchResult result (λ k. InWindow self.now page k) (λ f. Hit (single OutsideWindow SpaceLayer 0 (page * 4096) (Outside (means self.now) page)) f) }
     {
-        match page.checked_sub(self.figures.first()) {
-            Some(j) if j < self.figures.count() => Ok(1024 + j as usize),
-            _ => Err(page_refusal(Reason::OutsideWindow, page)),
-        }
+        self.number(page)
+            .ok_or(page_refusal(Reason::OutsideWindow, page))
     }
 
     // What an entry of the leaf tables says.
@@ -73,6 +79,7 @@ impl<'a> Space for Sv39<'a> {
     }
 
     fn clear(&mut self) {
+        // A number and no option: `new` cannot fail, and the figures say by 0 that they were refused.
         if self.figures.leaves == 0 {
             return;
         }
@@ -85,7 +92,7 @@ impl<'a> Space for Sv39<'a> {
         ensures step { Step always means self.old self.new (Looks page result) }
         ensures memory { memory_of self.new ≡ memory_of self.old }
     {
-        self.mapping(self.slot(page).ok()?)
+        self.mapping(self.number(page)?)
     }
 
     // A refusal leaves the memory as it was.
@@ -127,8 +134,7 @@ impl<'a> Space for Sv39<'a> {
     }
 
     fn peek(&self, frame: u32, index: u32) -> Result<u8, Fault> {
-        let at = self.place(frame, index)?;
-        Ok(self.tables.memory[at])
+        Ok(self.tables.memory[self.place(frame, index)?])
     }
 
     // A refusal leaves the memory as it was.

@@ -65,6 +65,7 @@ impl<'a> Sv39<'a> {
         ensures made { LawfulFigures (length memory.old) figures (length free.old) → Made (length memory.old) figures result }
         ensures unmade { (LawfulFigures (length memory.old) figures (length free.old) → ⊥) → Unmade memory.old free.old result }
     {
+        // `new` cannot fail: the refusal is the check's to give, and a space of refused figures has no leaf table.
         match Sv39::check(memory.len(), figures, free.len()) {
             Ok(()) => Sv39::build(memory, figures, free),
             Err(_) => Sv39::nothing(memory, free),

@@ -4,4 +4,4 @@ use Rattle.sv39.proofs.Numbers.{written}
 use Rattle.sv39.proofs.tables.Tables.set_entry.Goals as goal
 
 pub returns : goal.returns
-returns c = written (search (rules, places)) (λ i h. search (rules, places)) (omega arith)
+returns c = written c.write_u64.new.buf (search (rules, places)) (λ i h. search (rules, places)) c.write_u64.ensures (omega arith)
