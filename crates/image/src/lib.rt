@@ -12,6 +12,7 @@ pub mod plan;
 pub mod planning;
 mod prescribed;
 pub mod ranges;
+pub mod rights;
 pub mod search;
 pub mod segments;
 mod trace;
