@@ -26,6 +26,7 @@ pub struct Plan<'a> {
 
 impl<'a> Plan<'a> {
     // A plan of any file at any bias. Made past a refused check, it answers that fault wherever it is asked for what it plans.
+    // Two parameters: a file is opened once and planned at any number of biases, and a type for the pair would be `Plan` itself.
     pub fn new(opened: &Opened<'a>, bias: u64) -> Plan<'a>
         ensures { (result.opened.file.now ≡ opened.now.file.now) × (result.bias ≡ bias) }
     {
