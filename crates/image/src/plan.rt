@@ -14,6 +14,7 @@ use crate::checked::Checked;
 use crate::origin::Origin;
 use crate::placed::Placed;
 use crate::segments::Segments;
+use crate::span::Span;
 use elf::opened::Opened;
 use faults::fault::Fault;
 
@@ -76,7 +77,7 @@ impl<'a> Plan<'a> {
     pub fn bytes(&self, address: u64, out: &mut [u8]) -> Result<(), Fault>
         ensures { MatchResult result (λ _. AllClear (load_rules elf64 self.now.opened.file.now self.now.bias) × ((j : ℕ) → j < length out.old → slice_index out.new j ≡ (image_of elf64 self.now.opened.file.now self.now.bias).byte (address + j))) (λ f. First (load_rules elf64 self.now.opened.file.now self.now.bias) f × (out.new ≡ out.old)) }
     {
-        self.check()?.image().bytes(address, out);
+        self.check()?.image().bytes(&mut Span::new(address, out));
         Ok(())
     }
 
@@ -92,7 +93,7 @@ impl<'a> Plan<'a> {
     pub fn origins(&self, address: u64, out: &mut [Option<Origin>]) -> Result<(), Fault>
         ensures { MatchResult result (λ _. AllClear (load_rules elf64 self.now.opened.file.now self.now.bias) × ((j : ℕ) → j < length out.old → Traced elf64 self.now.opened.file.now self.now.bias (address + j) (slice_index_or out.new j None))) (λ f. First (load_rules elf64 self.now.opened.file.now self.now.bias) f × (out.new ≡ out.old)) }
     {
-        self.check()?.image().origins(address, out);
+        self.check()?.image().origins(&mut Span::new(address, out));
         Ok(())
     }
 }
