@@ -1,5 +1,5 @@
 -- Changes of a span, one after the other. Assumes nothing.
-use Rattle.std.proofs.Common.{◌≡◌, ℕ, ◌+◌, ◌<◌, length, slice_index, sym, ap, ◌∙◌, arith}
+use Rattle.std.proofs.Common.{ℕ, ◌+◌, ◌<◌, length, slice_index, sym, ap, ◌∙◌, arith}
 use Rattle.image.specs.Spans.{Kept, Puts, Holds}
 use Rattle.image.specs.declared.span.Span.{Span}
 

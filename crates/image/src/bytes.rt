@@ -1,5 +1,5 @@
 // The bytes of an image.
-ghost use Rattle.std.specs.Prelude.{◌≡◌, ℕ, ◌+◌, ◌-◌, ◌^◌, ◌<◌, ◌≤◌, find, length, None, Some, MatchOption, slice_index};
+ghost use Rattle.std.specs.Prelude.{◌≡◌, ◌+◌, ◌-◌, ◌^◌, ◌<◌, ◌≤◌, find, length, None, Some, MatchOption};
 ghost use Rattle.elf.specs.Layouts.{elf64};
 ghost use Rattle.elf.specs.Dynamic.{relocation_in, relocation_table};
 ghost use Rattle.image.specs.Prescribed.{segments_of, has_file_byte, byte_after, image_of};

@@ -1,10 +1,9 @@
 // The segments of a file whose rules are clear, from its program headers.
 ghost use Rattle.std.specs.Prelude.{◌≡◌, ◌+◌, ◌^◌, ◌<◌, ◌≤◌, [], ◌∷◌, ◌++◌, map};
 ghost use Rattle.elf.specs.Layouts.{elf64};
-ghost use Rattle.elf.specs.Segments.{phnum};
 ghost use Rattle.image.specs.Pages.{Ascending};
 ghost use Rattle.image.specs.Prescribed.{segment_of, segments_of};
-ghost use Rattle.image.specs.Stages.{Gathered, listed};
+ghost use Rattle.image.specs.Stages.{listed};
 
 use crate::placed::Placed;
 use crate::ranges::PageRange;

@@ -1,5 +1,5 @@
 // The words that relocations put.
-ghost use Rattle.std.specs.Prelude.{◌≡◌, ℕ, ◌+◌, ◌-◌, ◌^◌, ◌<◌, ◌&&◌, length, if◌then◌else◌, nat_eq, nat_le, nat_lt, slice_index};
+ghost use Rattle.std.specs.Prelude.{◌≡◌, ◌+◌, ◌-◌, ◌^◌, ◌<◌, ◌&&◌, if◌then◌else◌, nat_eq, nat_le, nat_lt};
 ghost use Rattle.elf.specs.Layouts.{elf64};
 ghost use Rattle.image.specs.Prescribed.{word_of, byte_of, reaches};
 ghost use Rattle.image.specs.Spans.{Kept, Puts};

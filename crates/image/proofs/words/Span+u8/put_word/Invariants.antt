@@ -1,4 +1,4 @@
-use Rattle.std.proofs.Common.{ℕ, ◌+◌, ◌-◌, cond, ◌&&◌, nat_lt, nat_le}
+use Rattle.std.proofs.Common.{◌+◌, ◌-◌, cond, ◌&&◌, nat_lt, nat_le}
 use Rattle.image.specs.Prescribed.{byte_of}
 use Rattle.image.specs.Spans.{Kept, Puts}
 use Rattle.image.proofs.words.Span+u8.put_word.Given as goal
