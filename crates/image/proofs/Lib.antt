@@ -3,6 +3,7 @@ pub mod Gathers
 pub mod Known
 pub mod Firsts
 pub mod Puts
+pub mod Spans
 pub mod Assembles
 pub mod Counts
 pub mod Traces

@@ -1,5 +1,6 @@
 -- What is known of a file and a bias once the rules of planning are clear, for the crate's own functions. Assumes nothing.
-use Rattle.std.specs.Prelude.{◌≡◌, ℕ, ◌+◌, ◌^◌, ◌<◌, ◌≤◌, List, [], ◌∷◌, map, take}
+use Rattle.std.specs.Prelude.{◌≡◌, ℕ, ◌+◌, ◌^◌, ◌<◌, ◌≤◌, Bool, List, [], ◌∷◌, map, find, take, Option}
+use Rattle.std.specs.Borrow.{Bor}
 use Rattle.std.specs.Coded.{×_prop, Π_prop, →_prop, Unit-prop}
 use Rattle.faults.specs.Rules.{Rule, AllClear}
 use Rattle.elf.specs.Segments.{Load, header, phnum, loads, entry_point}
@@ -31,3 +32,7 @@ listed s = take s.count s.list
 pub record Gathered (l : Layout) (bytes : List ℕ) (bias n : ℕ) (s : Segments) : Type 0 where
   pub same : listed s ≡ map (segment_of bias) (loads_below l bytes n)
   pub counted : s.count ≡ loads l bytes n
+
+-- What a search of a list answers whose test of the segment s may answer b where Gives s b: the first that the test passes.
+pub record FirstBy (Gives : Bor Segment → Bool → Type 0) (xs : List Segment) (r : Option Segment) : Type 0 where
+  pub found : (passes : Segment → Bool) → ((s : Bor Segment) (b : Bool) → Gives s b → b ≡ passes s.now) → r ≡ find passes xs

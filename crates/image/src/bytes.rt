@@ -1,13 +1,13 @@
 // The bytes of an image.
-ghost use Rattle.std.specs.Prelude.{◌≡◌, ℕ, ◌+◌, ◌-◌, ◌^◌, ◌<◌, ◌≤◌, find, length, None, Some, MatchOption, slice_index};
+ghost use Rattle.std.specs.Prelude.{◌≡◌, ◌+◌, ◌-◌, ◌^◌, ◌<◌, ◌≤◌, find, length, None, Some, MatchOption};
 ghost use Rattle.elf.specs.Layouts.{elf64};
 ghost use Rattle.elf.specs.Dynamic.{relocation_in, relocation_table};
 ghost use Rattle.image.specs.Prescribed.{segments_of, has_file_byte, byte_after, image_of};
+ghost use Rattle.image.specs.Spans.{Kept, Holds};
 ghost use Rattle.image.specs.declared.segments.Segment.{Segment as Part};
 
-use crate::buffers::fill_from;
 use crate::prescribed::Image;
-use crate::words::relocate;
+use crate::span::Span;
 use elf::records::Relocation;
 
 impl Image<'_> {
@@ -28,11 +28,12 @@ impl Image<'_> {
             .map_or(0, |offset| file[offset as usize])
     }
 
-    // Fills a buffer with the bytes that the file puts from an address on. Past 2^64 it puts none.
-    fn fill(&self, address: u64, out: &mut [u8])
-        ensures { (j : ℕ) → j < length out.old → slice_index out.new j ≡ byte_after elf64 self.now.opened.file.now self.now.bias 0 (address + j) }
+    // Fills a span with the bytes that the file puts there. Past 2^64 it puts none.
+    fn fill(&self, span: &mut Span<u8>)
+        ensures kept { Kept span.old span.new }
+        ensures filled { Holds span.new (byte_after elf64 self.now.opened.file.now self.now.bias 0) }
     {
-        fill_from(out, address, 0, |a| self.file_byte(a));
+        span.fill(0, |a| self.file_byte(a));
     }
 
     // The relocation `i` of the file's table.
@@ -45,21 +46,23 @@ impl Image<'_> {
         self.opened.relocation_at(offset).unwrap()
     }
 
-    // Puts the words of the file's relocations, in the table's order, as far as the buffer from an address on holds them.
-    fn relocate(&self, address: u64, out: &mut [u8])
-        requires { (j : ℕ) → j < length out.old → slice_index out.old j ≡ byte_after elf64 self.now.opened.file.now self.now.bias 0 (address + j) }
-        ensures { (j : ℕ) → j < length out.old → slice_index out.new j ≡ byte_after elf64 self.now.opened.file.now self.now.bias self.now.table.count (address + j) }
+    // Puts the words of the file's relocations, in the table's order, as far as the span holds them.
+    fn relocate(&self, span: &mut Span<u8>)
+        requires { Holds span.old (byte_after elf64 self.now.opened.file.now self.now.bias 0) }
+        ensures kept { Kept span.old span.new }
+        ensures relocated { Holds span.new (byte_after elf64 self.now.opened.file.now self.now.bias self.now.table.count) }
     {
         for r in (0..self.table.count).map(|i| self.relocation(i)) {
-            relocate(out, address, self.bias, &r);
+            span.relocate(self.bias, &r);
         }
     }
 
-    // Fills a buffer with the bytes from an address on.
-    pub(crate) fn bytes(&self, address: u64, out: &mut [u8])
-        ensures { (j : ℕ) → j < length out.old → slice_index out.new j ≡ (image_of elf64 self.now.opened.file.now self.now.bias).byte (address + j) }
+    // Fills a span with its bytes.
+    pub(crate) fn bytes(&self, span: &mut Span<u8>)
+        ensures kept { Kept span.old span.new }
+        ensures bytes { Holds span.new (image_of elf64 self.now.opened.file.now self.now.bias).byte }
     {
-        self.fill(address, out);
-        self.relocate(address, out);
+        self.fill(span);
+        self.relocate(span);
     }
 }

@@ -1,29 +1,17 @@
 // The segments of a file whose rules are clear, from its program headers.
 ghost use Rattle.std.specs.Prelude.{◌≡◌, ◌+◌, ◌^◌, ◌<◌, ◌≤◌, [], ◌∷◌, ◌++◌, map};
 ghost use Rattle.elf.specs.Layouts.{elf64};
-ghost use Rattle.elf.specs.Segments.{phnum};
 ghost use Rattle.image.specs.Pages.{Ascending};
-ghost use Rattle.image.specs.Prescribed.{rights_of, segment_of, segments_of};
-ghost use Rattle.image.specs.Stages.{Gathered, listed};
+ghost use Rattle.image.specs.Prescribed.{segment_of, segments_of};
+ghost use Rattle.image.specs.Stages.{listed};
 
 use crate::placed::Placed;
 use crate::ranges::PageRange;
+use crate::rights::rights_of;
 use crate::segments::{Segment, Segments};
 use elf::kinds::HeaderType;
 use elf::layout::PAGE;
 use elf::records::ProgramHeader;
-
-// The rights in a segment's flags. A writable page is readable too.
-fn rights_of(flags: u32) -> u8
-    ensures { result ≡ rights_of flags }
-{
-    let rights = (flags % 8) as u8;
-    if flags / 2 % 2 == 1 && flags / 4 % 2 == 0 {
-        rights + 4
-    } else {
-        rights
-    }
-}
 
 fn segment_of(bias: u64, h: ProgramHeader) -> Segment
     requires full { 0 < h.memsz }
@@ -46,16 +34,19 @@ fn segment_of(bias: u64, h: ProgramHeader) -> Segment
     }
 }
 
-impl Segments {
-    fn none() -> Segments
-        ensures { (listed result ≡ []) × (result.count ≡ 0) }
-    {
+// No segment.
+impl Default for Segments {
+    ghost is_default = { λ s. (listed s ≡ []) × (s.count ≡ 0) };
+
+    fn default() -> Segments {
         Segments {
             list: [Segment::default(); 16],
             count: 0,
         }
     }
+}
 
+impl Segments {
     // One segment more.
     fn push(&mut self, segment: Segment)
         requires { self.old.count < 16 }
@@ -74,7 +65,7 @@ impl Placed<'_> {
         ensures list { listed result ≡ segments_of elf64 self.now.checked.opened.file.now self.now.bias }
         ensures ascending { Ascending (map (λ x. x.pages) (listed result)) }
     {
-        let mut segments = Segments::none();
+        let mut segments = Segments::default();
         for h in (0..self.checked.headers()).map(|i| self.checked.header(i)) {
             if h.is(HeaderType::Load) {
                 segments.push(segment_of(self.bias, h));

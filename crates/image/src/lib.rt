@@ -1,7 +1,6 @@
 // Plans of ELF files: which pages will be mapped with which rights, and which byte will stand where, and why.
 #![tactic(auto)]
 
-mod buffers;
 mod bytes;
 mod checked;
 mod gather;
@@ -12,7 +11,9 @@ pub mod plan;
 pub mod planning;
 mod prescribed;
 pub mod ranges;
+pub mod rights;
 pub mod search;
 pub mod segments;
+mod span;
 mod trace;
 pub mod words;

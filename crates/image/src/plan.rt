@@ -14,6 +14,7 @@ use crate::checked::Checked;
 use crate::origin::Origin;
 use crate::placed::Placed;
 use crate::segments::Segments;
+use crate::span::Span;
 use elf::opened::Opened;
 use faults::fault::Fault;
 
@@ -26,6 +27,7 @@ pub struct Plan<'a> {
 
 impl<'a> Plan<'a> {
     // A plan of any file at any bias. Made past a refused check, it answers that fault wherever it is asked for what it plans.
+    // Two parameters: a file is opened once and planned at any number of biases, and a type for the pair would be `Plan` itself.
     pub fn new(opened: &Opened<'a>, bias: u64) -> Plan<'a>
         ensures { (result.opened.file.now ≡ opened.now.file.now) × (result.bias ≡ bias) }
     {
@@ -75,7 +77,7 @@ impl<'a> Plan<'a> {
     pub fn bytes(&self, address: u64, out: &mut [u8]) -> Result<(), Fault>
         ensures { MatchResult result (λ _. AllClear (load_rules elf64 self.now.opened.file.now self.now.bias) × ((j : ℕ) → j < length out.old → slice_index out.new j ≡ (image_of elf64 self.now.opened.file.now self.now.bias).byte (address + j))) (λ f. First (load_rules elf64 self.now.opened.file.now self.now.bias) f × (out.new ≡ out.old)) }
     {
-        self.check()?.image().bytes(address, out);
+        self.check()?.image().bytes(&mut Span::new(address, out));
         Ok(())
     }
 
@@ -91,7 +93,7 @@ impl<'a> Plan<'a> {
     pub fn origins(&self, address: u64, out: &mut [Option<Origin>]) -> Result<(), Fault>
         ensures { MatchResult result (λ _. AllClear (load_rules elf64 self.now.opened.file.now self.now.bias) × ((j : ℕ) → j < length out.old → Traced elf64 self.now.opened.file.now self.now.bias (address + j) (slice_index_or out.new j None))) (λ f. First (load_rules elf64 self.now.opened.file.now self.now.bias) f × (out.new ≡ out.old)) }
     {
-        self.check()?.image().origins(address, out);
+        self.check()?.image().origins(&mut Span::new(address, out));
         Ok(())
     }
 }

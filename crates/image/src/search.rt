@@ -3,7 +3,7 @@ ghost use Rattle.std.specs.Prelude.{◌≡◌, ◌+◌, ◌<◌, ◌≤◌, ◌&
 ghost use Rattle.std.specs.Option.{option_map};
 ghost use Rattle.image.specs.Pages.{page_count};
 ghost use Rattle.image.specs.Prescribed.{covers_page, has_file_byte, has_memory};
-ghost use Rattle.image.specs.Stages.{listed};
+ghost use Rattle.image.specs.Stages.{FirstBy, listed};
 
 use crate::segments::{Segment, Segments};
 
@@ -60,31 +60,33 @@ impl Segments {
         self.as_slice().get(i as usize).copied()
     }
 
+    // The first segment that passes a test.
+    fn first<F: Fn(&Segment) -> bool>(&self, test: F) -> Option<Segment>
+        requires { F.IsAlwaysCallable test }
+        ensures { FirstBy (λ s b. F.post test s b) (listed self.now) result }
+    {
+        self.as_slice().iter().find(|s| test(s)).copied()
+    }
+
     // The segment that covers a page.
     pub(crate) fn covering(&self, page: u64) -> Option<Segment>
         ensures { result ≡ find (covers_page page) (listed self.now) }
     {
-        self.as_slice().iter().find(|s| s.covers(page)).copied()
+        self.first(|s| s.covers(page))
     }
 
     // The segment that has an address among its file bytes.
     pub(crate) fn with_file_byte(&self, address: u64) -> Option<Segment>
         ensures { result ≡ find (has_file_byte address) (listed self.now) }
     {
-        self.as_slice()
-            .iter()
-            .find(|s| s.has_file_byte(address))
-            .copied()
+        self.first(|s| s.has_file_byte(address))
     }
 
     // The segment that has an address in its memory.
     pub(crate) fn with_memory(&self, address: u64) -> Option<Segment>
         ensures { result ≡ find (has_memory address) (listed self.now) }
     {
-        self.as_slice()
-            .iter()
-            .find(|s| s.has_memory(address))
-            .copied()
+        self.first(|s| s.has_memory(address))
     }
 
     // The rights of a page, where a segment covers it.

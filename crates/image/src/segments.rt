@@ -7,6 +7,7 @@ use crate::ranges::PageRange;
 #[derive(Clone, Copy, PartialEq, Eq, Debug, Default)]
 pub struct Segment {
     pub pages: PageRange,
+    // A sum of bits, as in the file's flags; an enum of the sums would be no plainer.
     pub rights: u8,
     pub address: u64,
     pub memsz: u64,
@@ -15,6 +16,7 @@ pub struct Segment {
 }
 
 // At most 16 segments. There is no heap here: the list has its memory in it.
+// An array and a count, for an image is `Copy`, and the library's `ArrayVec` is not.
 #[derive(Clone, Copy)]
 pub struct Segments {
     pub(crate) list: [Segment; 16],

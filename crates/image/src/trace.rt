@@ -5,11 +5,12 @@ ghost use Rattle.elf.specs.Searches.{Highest};
 ghost use Rattle.elf.specs.Dynamic.{relocation_in, relocation_table};
 ghost use Rattle.image.specs.Prescribed.{reaches};
 ghost use Rattle.image.specs.Origins.{Reaches, Unreached, ComesFrom, Traced};
+ghost use Rattle.image.specs.Spans.{Kept};
 
-use crate::buffers::fill_from;
 use crate::origin::Origin;
 use crate::prescribed::Image;
 use crate::search::is_among;
+use crate::span::Span;
 use elf::kinds::RelocationType;
 use elf::layout::{ELF64, PAGE};
 
@@ -55,10 +56,11 @@ impl Image<'_> {
         Some(self.origin_on_page(address))
     }
 
-    // The origins of the bytes from an address on. Past 2^64 there is none.
-    pub(crate) fn origins(&self, address: u64, out: &mut [Option<Origin>])
-        ensures { (j : ℕ) → j < length out.old → Traced elf64 self.now.opened.file.now self.now.bias (address + j) (slice_index_or out.new j None) }
+    // The origins of the bytes of a span. Past 2^64 there is none.
+    pub(crate) fn origins(&self, span: &mut Span<Option<Origin>>)
+        ensures kept { Kept span.old span.new }
+        ensures traced { (j : ℕ) → j < length span.new.items.now → Traced elf64 self.now.opened.file.now self.now.bias (span.new.address + j) (slice_index_or span.new.items.now j None) }
     {
-        fill_from(out, address, None, |a| self.origin(a));
+        span.fill(None, |a| self.origin(a));
     }
 }

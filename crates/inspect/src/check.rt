@@ -93,7 +93,7 @@ fn has_ignored_relocations(opened: &Opened) -> bool {
             .map_while(|i| opened.dynamic_entry(i))
             .take_while(|entry| !entry.is(Tag::Null))
             .filter(|entry| entry.value != 0)
-            .any(|entry| { TableSize::ALL.iter().any(|size| entry.tag == *size as u64) })
+            .any(|entry| TableSize::ALL.iter().any(|size| entry.tag == *size as u64))
 }
 
 impl<R: Print> Report<'_, R> {

@@ -33,7 +33,7 @@ pub(crate) enum Failure {
     Memory(#[from] AllocError),
 }
 
-// What `main` prints behind 'Error: ': a text in quotes, or the error as it is.
+// What `main` prints behind 'Error: ': a text in quotes, or the error as it is. The derive would print the case's name, not the text.
 impl fmt::Debug for Failure {
     fn fmt<W: fmt::Write>(&self, f: &mut fmt::Formatter<W>) -> fmt::Result {
         match self {

@@ -2,6 +2,7 @@
 ghost use Rattle.std.specs.Prelude.{◌≡◌};
 ghost use Rattle.image.specs.Prescribed.{rights_of};
 
+use image::rights::rights_of;
 use std::fmt;
 
 // The rights to read (4), write (2) and execute (1), added up.
@@ -13,12 +14,7 @@ impl Rights {
     pub(crate) fn of_flags(flags: u32) -> Rights
         ensures { result.0 ≡ rights_of flags }
     {
-        let rights = (flags % 8) as u8;
-        if flags / 2 % 2 == 1 && flags / 4 % 2 == 0 {
-            Rights(rights + 4)
-        } else {
-            Rights(rights)
-        }
+        Rights(rights_of(flags))
     }
 
     // The letter of a right, where it is among these.

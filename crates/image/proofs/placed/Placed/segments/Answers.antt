@@ -18,8 +18,8 @@ loop-h-init c =
     let start : c.into_iter-h-iterator.result.iter.start ≡ 0 = search rules in
     let end : c.into_iter-h-iterator.result.iter.end ≡ phnum elf64 b = search rules in
     let seen : c.into_iter-h-iterator.result.f.0.now ≡ m = search rules in
-    let none : Gathered elf64 b m.bias 0 c.none-segments.result = record { same = c.none-segments.ensures.0; counted = c.none-segments.ensures.1 } in
-    (subst (λ (n : ℕ). Gathered elf64 b m.bias n c.none-segments.result) (sym start) none, end, omega arith, seen)
+    let none : Gathered elf64 b m.bias 0 c.default-segments.result = record { same = c.default-segments.ensures.0; counted = c.default-segments.ensures.1 } in
+    (subst (λ (n : ℕ). Gathered elf64 b m.bias n c.default-segments.result) (sym start) none, end, omega arith, seen)
 
 pub segment_of-requires : goal.segment_of-requires
 segment_of-requires c =

@@ -1,12 +1,7 @@
-use Rattle.std.proofs.Common.{rules, ◌∙◌}
-use Rattle.std.proofs.lemmas.Iterator.{YieldsList-from_slice}
-use Rattle.std.proofs.lemmas.Iterator.Search.{find_from_yields_List}
+use Rattle.std.proofs.Common.{rules}
 use borrow.Author.Tests.{tests}
 use Rattle.image.specs.Prescribed.{covers_page}
-use Rattle.image.specs.Stages.{listed}
 use Rattle.image.proofs.segments.Segments.covering.Goals as goal
 
 pub returns : goal.returns
-returns c =
-    c.copied.ensures
-    ∙ find_from_yields_List (covers_page c.args.page) _ _ c.find.result c.find.ensures.ran (YieldsList-from_slice (listed c.args.self.now) cc) (λ x b q k. search (rules, tests))
+returns c = c.first.ensures.found (covers_page c.args.page) (λ s b k. search (rules, tests))

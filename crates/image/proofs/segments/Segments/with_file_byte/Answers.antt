@@ -1,12 +1,7 @@
-use Rattle.std.proofs.Common.{rules, ◌∙◌}
-use Rattle.std.proofs.lemmas.Iterator.{YieldsList-from_slice}
-use Rattle.std.proofs.lemmas.Iterator.Search.{find_from_yields_List}
+use Rattle.std.proofs.Common.{rules}
 use borrow.Author.Tests.{tests}
 use Rattle.image.specs.Prescribed.{has_file_byte}
-use Rattle.image.specs.Stages.{listed}
 use Rattle.image.proofs.segments.Segments.with_file_byte.Goals as goal
 
 pub returns : goal.returns
-returns c =
-    c.copied.ensures
-    ∙ find_from_yields_List (has_file_byte c.args.address) _ _ c.find.result c.find.ensures.ran (YieldsList-from_slice (listed c.args.self.now) cc) (λ x b q k. search (rules, tests))
+returns c = c.first.ensures.found (has_file_byte c.args.address) (λ s b k. search (rules, tests))
