@@ -123,7 +123,7 @@ impl<'a, R: Record> Records<'a, R> {
         R::read(self.headers.layout, self.headers.bytes, at)
     }
 
-    // Refuses the file for the first record that a test fits.
+    // Refuses the file for the first record that a test fits. A loop: with `find` and a closure that calls the test the proof did not close.
     pub(crate) fn refuse<F: Fn(u32) -> bool>(&self, reason: Reason, test: F) -> Result<(), Fault>
         requires { (i : ℕ) → i < self.now.table.count → F.pre test i }
         ensures { Tested reason self.now.table (λ i b. F.post test i b) result }
