@@ -33,6 +33,6 @@ pub record Gathered (l : Layout) (bytes : List ℕ) (bias n : ℕ) (s : Segments
   pub same : listed s ≡ map (segment_of bias) (loads_below l bytes n)
   pub counted : s.count ≡ loads l bytes n
 
--- What a search of a list answers whose test of the segment s may answer b where Gives s b: the first that the test passes.
+-- What a search of a list by a test answers, where Gives s b says that the test of the segment s may answer b: the first that passes.
 pub record FirstBy (Gives : Bor Segment → Bool → Type 0) (xs : List Segment) (r : Option Segment) : Type 0 where
   pub found : (passes : Segment → Bool) → ((s : Bor Segment) (b : Bool) → Gives s b → b ≡ passes s.now) → r ≡ find passes xs

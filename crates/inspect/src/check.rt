@@ -9,6 +9,7 @@ use elf::kinds::{FileType, HeaderType, Tag};
 use elf::layout::{ELF64, PAGE};
 use elf::opened::{Opened, open};
 use elf::records::{FileHeader, ProgramHeader};
+use image::rights::rights_of;
 use std::env::Args;
 use std::io;
 use std::ops::Range;
@@ -72,7 +73,7 @@ fn print_segment(rt: &impl Print, number: u32, h: &ProgramHeader) -> io::Result<
     } = *h;
     let first = vaddr / PAGE;
     let last = vaddr.saturating_add(memsz).saturating_sub(1) / PAGE;
-    let rights = Rights::of_flags(flags);
+    let rights = Rights(rights_of(flags));
     println!(rt; "  {number:>6}  {first:#12x}  {last:#12x}  {rights}     {filesz:>10}  {memsz:>12}")
 }
 

@@ -1,8 +1,4 @@
 // Rights of pages, as the program prints them.
-ghost use Rattle.std.specs.Prelude.{◌≡◌};
-ghost use Rattle.image.specs.Prescribed.{rights_of};
-
-use image::rights::rights_of;
 use std::fmt;
 
 // The rights to read (4), write (2) and execute (1), added up.
@@ -10,13 +6,6 @@ use std::fmt;
 pub(crate) struct Rights(pub(crate) u8);
 
 impl Rights {
-    // The rights in a segment's flags. A writable segment is readable too.
-    pub(crate) fn of_flags(flags: u32) -> Rights
-        ensures { result.0 ≡ rights_of flags }
-    {
-        Rights(rights_of(flags))
-    }
-
     // The letter of a right, where it is among these.
     fn letter(self, right: u8, letter: char) -> char {
         if self.0 & right == right { letter } else { '-' }
