@@ -131,7 +131,7 @@ module _ (l : Layout) (bytes : List ℕ) where
             eq-eqb u.count t.count (count ∙ endless.1 ∙ sym room),
       )
 
-  -- What a scan of the entries needs.
+  -- What a search through the entries needs.
   pub entries_ready : (t : Table) → t ≡ entries l bytes → Extended l bytes → ((i : ℕ) → i < t.count → Listed l bytes l.dynamic t i) × (t.first + t.size * 2 ^ 32 ≤ 2 ^ 64)
   entries_ready t e x =
       let whole = entries_whole_in x in

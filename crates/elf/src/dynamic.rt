@@ -1,5 +1,5 @@
 // The dynamic table of a position-independent file.
-ghost use Rattle.std.specs.Prelude.{◌≡◌, ℕ, ◌+◌, ◌*◌, ◌<◌, ◌≤◌, true, Decides, MatchOption, MatchResult, ◌≢◌};
+ghost use Rattle.std.specs.Prelude.{◌≡◌, ◌+◌, ◌*◌, ◌<◌, ◌≤◌, true, Decides, MatchOption, MatchResult, ◌≢◌};
 ghost use Rattle.faults.specs.declared.fault.Layer.TheVariants.{Open};
 ghost use Rattle.faults.specs.Rules.{Checked};
 ghost use Rattle.faults.specs.declared.fault.Reason.TheVariants.{DynamicExtent, DynamicEnd, DynamicTag};

@@ -1,5 +1,5 @@
 // The checks of a file in their order, and the opened file.
-ghost use Rattle.std.specs.Prelude.{◌≡◌, ℕ, ◌+◌, ◌*◌, ◌<◌, ◌≤◌, length, MatchOption};
+ghost use Rattle.std.specs.Prelude.{◌≡◌, ◌+◌, ◌*◌, ◌<◌, ◌≤◌, length, MatchOption};
 ghost use Rattle.faults.specs.Rules.{Answers, Tried, Decided, InTurn};
 ghost use Rattle.elf.specs.Layouts.{elf64};
 ghost use Rattle.elf.specs.Records.{file_header, relocation_at};
@@ -7,7 +7,7 @@ ghost use Rattle.elf.specs.Segments.{header};
 ghost use Rattle.elf.specs.Stages.{Readable};
 ghost use Rattle.elf.specs.Dynamic.{dynamic_table, entry_in, relocation_in, format_rules, relocation_rules, open_rules};
 ghost use Rattle.elf.specs.Files.{HasHeader, HasEntry, Listing};
-ghost use Rattle.elf.specs.declared.records.Table.{Table as Span};
+ghost use Rattle.elf.specs.declared.records.Table.{Table as Rows};
 
 use crate::bytes::{holds, u16_at, word_at};
 use crate::kinds::HeaderType;
@@ -73,12 +73,13 @@ impl<'a> File<'a> {
     {
         match self.check_format() {
             Ok(dynamics) => dynamics.relocation_table(),
+            // This cannot fail: past a refusal there are no relocations, as `listing` says.
             Err(_) => Table::none(self.layout.relocation),
         }
     }
 
     fn relocation(&self, i: u32) -> Option<Relocation>
-        ensures { (t : Span) × Listing self.now.layout self.now.bytes.now t × MatchOption result (t.count ≤ i) (λ x. (i < t.count) × (x ≡ relocation_in self.now.layout self.now.bytes.now t i)) }
+        ensures { (t : Rows) × Listing self.now.layout self.now.bytes.now t × MatchOption result (t.count ≤ i) (λ x. (i < t.count) × (x ≡ relocation_in self.now.layout self.now.bytes.now t i)) }
     {
         let table = self.relocation_table();
         if i >= table.count {
@@ -197,7 +198,7 @@ impl<'a> Opened<'a> {
 
     // How many relocations there are.
     pub fn relocations(&self) -> u32
-        ensures count { (t : Span) × Listing elf64 self.now.file.now t × (result ≡ t.count) }
+        ensures count { (t : Rows) × Listing elf64 self.now.file.now t × (result ≡ t.count) }
         ensures limit { result ≤ 65536 }
     {
         self.relocation_table().count
@@ -205,7 +206,7 @@ impl<'a> Opened<'a> {
 
     // The relocation `i`, where there is one.
     pub fn relocation(&self, i: u32) -> Option<Relocation>
-        ensures { (t : Span) × Listing elf64 self.now.file.now t × MatchOption result (t.count ≤ i) (λ x. (i < t.count) × (x ≡ relocation_in elf64 self.now.file.now t i)) }
+        ensures { (t : Rows) × Listing elf64 self.now.file.now t × MatchOption result (t.count ≤ i) (λ x. (i < t.count) × (x ≡ relocation_in elf64 self.now.file.now t i)) }
     {
         File::elf64(self.file).relocation(i)
     }

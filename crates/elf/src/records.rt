@@ -11,7 +11,7 @@ ghost use Rattle.elf.specs.declared.layout.Layout.{Layout as Shape};
 use crate::bytes::{u16_at, u32_at, u64_at, word_at};
 use crate::layout::Layout;
 
-// The fields of the file header behind its identification.
+// The fields of the file header behind its identification. Here and below kinds and tags are numbers: a file may hold any, and `is` asks the enums.
 #[derive(Clone, Copy)]
 pub struct FileHeader {
     pub kind: u16,
@@ -58,6 +58,7 @@ pub struct Table {
     pub count: u32,
 }
 
+// Layout and bytes stand apart: `Opened::file_header` reads files past the limit on length too, which no stage carries.
 pub(crate) fn file_header(l: Layout, file: &[u8]) -> FileHeader
     requires { (Sound l) × (l.file.size ≤ length file.now) }
     ensures { result ≡ file_header l file.now }

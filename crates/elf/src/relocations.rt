@@ -1,5 +1,5 @@
 // The rules on the relocations.
-ghost use Rattle.std.specs.Prelude.{◌≡◌, ℕ, ◌+◌, ◌*◌, ◌<◌, ◌≤◌, Decides, [], ◌∷◌};
+ghost use Rattle.std.specs.Prelude.{◌≡◌, ◌+◌, ◌*◌, ◌<◌, ◌≤◌, Decides, [], ◌∷◌};
 ghost use Rattle.faults.specs.Rules.{Tried};
 ghost use Rattle.faults.specs.declared.fault.Reason.TheVariants.{RelocationType as WrongType, RelocationTarget};
 ghost use Rattle.elf.specs.Segments.{on_each, phnum};

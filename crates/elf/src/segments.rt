@@ -1,5 +1,5 @@
 // The checks of the program headers.
-ghost use Rattle.std.specs.Prelude.{◌≡◌, ℕ, ◌+◌, ◌*◌, ◌<◌, ◌≤◌, Decides, MatchOption};
+ghost use Rattle.std.specs.Prelude.{◌≡◌, ◌+◌, ◌*◌, ◌<◌, ◌≤◌, Decides, MatchOption};
 ghost use Rattle.faults.specs.Rules.{Checked, Tried};
 ghost use Rattle.faults.specs.declared.fault.Reason.TheVariants.{EntryPoint, Interpreter};
 ghost use Rattle.elf.specs.Searches.{SomeBelow, FirstOf, Highest};

@@ -114,7 +114,7 @@ impl<'a> Headers<'a> {
 }
 
 impl<'a, R: Record> Records<'a, R> {
-    // The record `i`.
+    // The record `i`. The bound is on the argument, as with headers.
     pub(crate) fn get(&self, i: u32) -> R
         requires { i < self.now.table.count }
         ensures { result ≡ R.reads self.now.headers.layout self.now.headers.bytes.now (offset_in self.now.table i) }

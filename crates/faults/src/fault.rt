@@ -54,7 +54,7 @@ pub enum Layer {
     Dump = 5,
 }
 
-// A refusal. Record and place are 0 where the reason names none.
+// A refusal. Record and place are 0 where the reason names none: they stay numbers, for the interface says what a refusal shows.
 #[derive(Clone, Copy, PartialEq, Eq, Debug)]
 pub struct Fault {
     pub reason: Reason,

@@ -42,6 +42,7 @@ impl Image<'_> {
         ensures same { result ≡ relocation_in elf64 self.now.opened.file.now (relocation_table elf64 self.now.opened.file.now) i }
         ensures ends { result.kind ≡ 3 → self.now.bias + result.offset + 8 ≤ 2 ^ 38 }
     {
+        // Reckoned here: the reader's `Table::offset` asks for a table without a wrap, and a public function asks nothing.
         let offset = self.table.first + self.table.size * i as u64;
         self.opened.relocation_at(offset).unwrap()
     }

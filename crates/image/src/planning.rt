@@ -8,7 +8,7 @@ use crate::plan::Plan;
 use elf::opened::Opened;
 use faults::fault::Fault;
 
-// Plans an opened file at a bias.
+// Plans an opened file at a bias. The two parameters are what a `Plan` is made of, and it carries both from here on.
 pub fn plan<'a>(opened: &Opened<'a>, bias: u64) -> Result<Plan<'a>, Fault>
     ensures { Answers (load_rules elf64 opened.now.file.now bias) (λ p. (p.opened.file.now ≡ opened.now.file.now) × (p.bias ≡ bias)) result }
 {

@@ -7,7 +7,7 @@ use crate::ranges::PageRange;
 #[derive(Clone, Copy, PartialEq, Eq, Debug, Default)]
 pub struct Segment {
     pub pages: PageRange,
-    // A sum of bits, as in the file's flags; an enum of the sums would be no plainer.
+    // A sum of bits, as in the file's flags. An enum of the sums would be no plainer, and the library's `bitflags` would ask more of callers.
     pub rights: u8,
     pub address: u64,
     pub memsz: u64,

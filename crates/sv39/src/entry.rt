@@ -36,7 +36,8 @@ impl Bit {
     }
 }
 
-// A physical page and the rights to it: 4 read, 2 write, 1 execute. They stay a number, since an entry may have any of the eight.
+// A physical page and the rights to it: 4 read, 2 write, 1 execute. They stay a number: `rights_in` answers it of any entry, which may have
+// any of the eight.
 #[derive(Clone, Copy, PartialEq, Eq, Debug)]
 pub struct Leaf {
     pub page: u64,
