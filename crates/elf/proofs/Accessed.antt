@@ -1,14 +1,16 @@
 -- What the accessors of an opened file find. Assumes nothing.
-use Rattle.std.proofs.Common.{◌≡◌, ℕ, ◌+◌, ◌*◌, ◌/◌, ◌^◌, ◌<◌, ◌≤◌, eqb, List, length, sym, ap, ◌∙◌, subst, inl, inr, mul-le-mul_left, mul-add, arith, lit<}
+use Rattle.std.proofs.Common.{◌≡◌, ℕ, ◌+◌, ◌*◌, ◌/◌, ◌^◌, ◌<◌, ◌≤◌, eqb, Some, None, Option, MatchOption, List, length, sym, ap, ◌∙◌, subst, inl, inr, mul-le-mul_left, mul-add, arith, lit<}
 use Rattle.std.proofs.lemmas.Bool.Decides.{Decides-eqb}
 use Rattle.faults.specs.Rules.{AllClear}
 use Rattle.elf.specs.Layouts.{Sound}
 use Rattle.elf.specs.Searches.{Lowest}
+use Rattle.elf.specs.Records.{entry_at}
 use Rattle.elf.specs.Segments.{phnum, header, offset_in}
 use Rattle.elf.specs.Stages.{Readable, Extended, Inside, Listed}
 use Rattle.elf.specs.Dynamic.{IsDynamic, dynamic_header, dynamic_table, entry_in, relocation_table, format_rules}
 use Rattle.elf.specs.Files.{HasEntry, Listing}
 use Rattle.elf.specs.declared.layout.Layout.{Layout}
+use Rattle.elf.specs.declared.records.DynamicEntry.{DynamicEntry}
 use Rattle.elf.specs.declared.records.ProgramHeader.{ProgramHeader}
 use Rattle.elf.specs.declared.records.Table.{Table}
 use Rattle.elf.proofs.Lowests.{lowest_found, lowest_none}
@@ -44,7 +46,7 @@ module _ (l : Layout) (bytes : List ℕ) where
         let inside : h.offset + l.dynamic * i + l.dynamic ≤ length bytes = subst (λ (t : Table). offset_in t i + l.dynamic ≤ length bytes) table has.inside in
         (counted, inside)
 
-    pub entry_found : (i : ℕ) → Readable l bytes → i < h.filesz / l.dynamic → h.offset + l.dynamic * i + l.dynamic ≤ length bytes → HasEntry l bytes i
+    entry_found : (i : ℕ) → Readable l bytes → i < h.filesz / l.dynamic → h.offset + l.dynamic * i + l.dynamic ≤ length bytes → HasEntry l bytes i
     entry_found i r counted inside = record {
       readable = r;
       dynamic = let d_is = at in omega (arith, found.within);
@@ -52,8 +54,15 @@ module _ (l : Layout) (bytes : List ℕ) where
       inside = subst (λ (t : Table). offset_in t i + l.dynamic ≤ length bytes) (sym table) inside;
     }
 
-    pub entry_same : (i : ℕ) → entry_in l bytes (record { first = h.offset; size = l.dynamic; count = h.filesz / l.dynamic }) i ≡ entry_in l bytes (dynamic_table l bytes) i
+    entry_same : (i : ℕ) → entry_in l bytes (record { first = h.offset; size = l.dynamic; count = h.filesz / l.dynamic }) i ≡ entry_in l bytes (dynamic_table l bytes) i
     entry_same i = ap (λ (t : Table). entry_in l bytes t i) (sym table)
+
+    -- What the reading of the entry i answers, whose bytes begin at a.
+    pub entry_by : (i a : ℕ) (r : Option DynamicEntry) → Readable l bytes → i < h.filesz / l.dynamic → a ≡ h.offset + l.dynamic * i
+        → MatchOption r (length bytes < a + l.dynamic) (λ e. (a + l.dynamic ≤ length bytes) × (e ≡ entry_at l bytes a))
+        → MatchOption r (HasEntry l bytes i → ⊥) (λ e. HasEntry l bytes i × (e ≡ entry_in l bytes (dynamic_table l bytes) i))
+    entry_by i a None ready counted is short = λ has. omega (arith, (entry_figures i has).1)
+    entry_by i a (Some e) ready counted is found = (entry_found i ready counted (omega (arith, found.0)), found.1 ∙ ap (entry_at l bytes) is ∙ entry_same i)
 
   -- The rule on the relocation table, from the rules of the format.
   pub count_few : Sound l → AllClear (format_rules l bytes) → (relocation_table l bytes).count ≤ l.limits.relocations

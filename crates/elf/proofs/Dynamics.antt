@@ -1,5 +1,5 @@
 -- The dynamic header and its entries: what the searches of the code find. Assumes nothing.
-use Rattle.std.proofs.Common.{◌≡◌, ℕ, ◌+◌, ◌*◌, ◌^◌, ◌<◌, ◌≤◌, length, true, eqb, ltb, List, Some, None, Decides, Option, sym, refl, ap, ◌∙◌, subst, inl, inr, mul-le-mul_left, mul-zero, arith}
+use Rattle.std.proofs.Common.{◌≡◌, ℕ, ◌+◌, ◌*◌, ◌^◌, ◌<◌, ◌≤◌, length, Bool, true, false, eqb, ltb, List, Some, None, Decides, Option, sym, refl, ap, ◌∙◌, subst, inl, inr, mul-le-mul_left, mul-zero, arith}
 use native.Mathlib.Nat.{mul-div-le}
 use Rattle.std.specs.Option as options
 use Rattle.std.proofs.lemmas.Bool.{eq-eqb, eqb-true, lt-ltb, ltb-true, and_from, and_parts, cases_Bool, cond-true, cond-false, both_ways}
@@ -122,14 +122,23 @@ module _ (l : Layout) (bytes : List ℕ) where
     within = within;
   }
 
-  pub endless_decides : (t u : Table) → t ≡ dynamic_table l bytes → u ≡ entries l bytes → has_dynamic l bytes ≡ true → Decides (eqb u.count t.count) (Endless l bytes)
+  endless_decides : (t u : Table) → t ≡ dynamic_table l bytes → u ≡ entries l bytes → has_dynamic l bytes ≡ true → Decides (eqb t.count u.count) (Endless l bytes)
   endless_decides t u e f has =
       let count : u.count ≡ entry_count l bytes = ap (λ s. s.count) (f ∙ entries_some has) in
       let room : t.count ≡ (dynamic_table l bytes).count = ap (λ s. s.count) e in (
-        λ test. (has, sym count ∙ eqb-true u.count t.count test ∙ room),
+        λ test. (has, sym count ∙ sym (eqb-true t.count u.count test) ∙ room),
         λ endless.
-            eq-eqb u.count t.count (count ∙ endless.1 ∙ sym room),
+            eq-eqb t.count u.count (room ∙ sym endless.1 ∙ sym count),
       )
+
+  -- Whether entries never end, where the dynamic table is known, if there is one, and the test of that.
+  pub endless_by : {X : Type 0} {Gives : X → Type 0} (Same : X → Type 0) (table_of : X → Table) (u : Table) (found : Option X) (b : Bool) → u ≡ entries l bytes
+      → options.MatchOption found (has_dynamic l bytes ≡ true → ⊥) (λ x. (has_dynamic l bytes ≡ true) × Same x × (table_of x ≡ dynamic_table l bytes))
+      → options.MatchOption found (b ≡ false) Gives
+      → ((x : X) → Gives x → b ≡ eqb (table_of x).count u.count)
+      → Decides b (Endless l bytes)
+  endless_by _ table_of u None b f lacks is gives = (λ t. absurd (both_ways b is t), λ endless. absurd (lacks endless.0))
+  endless_by _ table_of u (Some x) b f has told gives = subst (λ t. Decides t (Endless l bytes)) (sym (gives x told)) (endless_decides (table_of x) u has.2 f has.0)
 
   -- What a search through the entries needs.
   pub entries_ready : (t : Table) → t ≡ entries l bytes → Extended l bytes → ((i : ℕ) → i < t.count → Listed l bytes l.dynamic t i) × (t.first + t.size * 2 ^ 32 ≤ 2 ^ 64)

@@ -1,11 +1,11 @@
 pub mod Finds
 pub mod Lasts
-pub mod Orders
-pub mod Signs
 pub mod Powers
 pub mod Known
 pub mod Lowests
+pub mod Counts
 pub mod Dynamics
 pub mod Located
+pub mod Numbers
 pub mod Passed
 pub mod Accessed

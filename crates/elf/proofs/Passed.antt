@@ -72,13 +72,9 @@ module _ (l : Layout) (b : List ℕ) where
       let g = groups clear in
       knows_dynamic (knows_segments (knows_table (knows_header sound g.identity) g.table) g.segments) g.dynamic
 
-  -- All groups are clear.
-  pub all_groups : AllClear (identity_rules l b) → AllClear (kind_rules l b) → AllClear (size_rules l b) → AllClear (table_rules l b) → AllClear (segment_rules l b) → AllClear (dynamic_rules l b) → AllClear (format_rules l b)
-  unfolding format_rules
-  all_groups i k s t g d =
-      clear_both (identity_rules l b) behind1 i
-      (clear_both (kind_rules l b) behind2 k
-      (clear_both (size_rules l b) behind3 s (clear_both (table_rules l b) behind4 t (clear_both (segment_rules l b) (dynamic_rules l b) g d))))
+  -- The rules on the header and on the table of program headers.
+  abbrev pub header_rules : List Rule
+  header_rules = kind_rules l b ++ (size_rules l b ++ table_rules l b)
 
   -- The first fault of one group, those before it clear.
   module _ (f : Fault) where
@@ -87,37 +83,30 @@ module _ (l : Layout) (b : List ℕ) where
     at_identity first = first_front (identity_rules l b) behind1 f first
 
     module _ (i : AllClear (identity_rules l b)) where
-      pub at_kind : First (kind_rules l b) f → First (format_rules l b) f
+      pub at_header : First header_rules f → First (format_rules l b) f
       unfolding format_rules
-      at_kind first = first_back (identity_rules l b) behind1 f i (first_front (kind_rules l b) behind2 f first)
+      at_header first = first_back (identity_rules l b) behind1 f i (first_front header_rules behind4 f first)
 
-      module _ (k : AllClear (kind_rules l b)) where
-        behind_kind : First behind2 f → First (format_rules l b) f
+      module _ (h : AllClear header_rules) where
+        behind_header : First behind4 f → First (format_rules l b) f
         unfolding format_rules
-        behind_kind first = first_back (identity_rules l b) behind1 f i (first_back (kind_rules l b) behind2 f k first)
+        behind_header first = first_back (identity_rules l b) behind1 f i (first_back header_rules behind4 f h first)
 
-        pub at_size : First (size_rules l b) f → First (format_rules l b) f
-        at_size first = behind_kind (first_front (size_rules l b) behind3 f first)
+        pub at_segments : First (segment_rules l b) f → First (format_rules l b) f
+        at_segments first = behind_header (first_front (segment_rules l b) (dynamic_rules l b) f first)
 
-        module _ (s : AllClear (size_rules l b)) where
-          pub at_table : First (table_rules l b) f → First (format_rules l b) f
-          at_table first = behind_kind (first_back (size_rules l b) behind3 f s (first_front (table_rules l b) behind4 f first))
+        at_dynamic : AllClear (segment_rules l b) → First (dynamic_rules l b) f → First (format_rules l b) f
+        at_dynamic g first = behind_header (first_back (segment_rules l b) (dynamic_rules l b) f g first)
 
-          module _ (t : AllClear (table_rules l b)) where
-            behind_table : First behind4 f → First (format_rules l b) f
-            unfolding format_rules
-            behind_table first = behind_kind (first_back (size_rules l b) behind3 f s (first_back (table_rules l b) behind4 f t first))
-
-            pub at_segments : First (segment_rules l b) f → First (format_rules l b) f
-            at_segments first = behind_table (first_front (segment_rules l b) (dynamic_rules l b) f first)
-
-            pub at_dynamic : AllClear (segment_rules l b) → First (dynamic_rules l b) f → First (format_rules l b) f
-            at_dynamic g first = behind_table (first_back (segment_rules l b) (dynamic_rules l b) f g first)
+  -- All groups are clear.
+  all_clear : AllClear (identity_rules l b) → AllClear header_rules → AllClear (segment_rules l b) → AllClear (dynamic_rules l b) → AllClear (format_rules l b)
+  unfolding format_rules
+  all_clear i h g d = clear_both (identity_rules l b) behind1 i (clear_both header_rules behind4 h (clear_both (segment_rules l b) (dynamic_rules l b) g d))
 
   -- What the last check of the format answers, all groups before it clear.
-  pub at_last : {X : Type 0} {P Q : X → Type 0} (r : Result X Fault) → AllClear (identity_rules l b) → AllClear (kind_rules l b) → AllClear (size_rules l b) → AllClear (table_rules l b) → AllClear (segment_rules l b) → ((x : X) → P x → Q x) → Answers (dynamic_rules l b) P r → Answers (format_rules l b) Q r
-  at_last (Ok x) i k s t g step d = (all_groups i k s t g d.0, step x d.1)
-  at_last (Err f) i k s t g step d = at_dynamic f i k s t g d
+  pub at_last : {X : Type 0} {P Q : X → Type 0} (r : Result X Fault) → AllClear (identity_rules l b) → AllClear header_rules → AllClear (segment_rules l b) → ((x : X) → P x → Q x) → Answers (dynamic_rules l b) P r → Answers (format_rules l b) Q r
+  at_last (Ok x) i h g step d = (all_clear i h g d.0, step x d.1)
+  at_last (Err f) i h g step d = at_dynamic f i h g d
 
   -- What the check of the relocations answers, the format clear.
   pub at_relocations : {X : Type 0} (r : Result X Fault) → AllClear (format_rules l b) → Tried (relocation_rules l b) r → Tried (open_rules l b) r

@@ -1,10 +1,11 @@
-// Numbers stored lowest byte first.
+// Numbers stored lowest byte first, and bytes that lie in others.
 ghost use Rattle.std.specs.Prelude.{◌≡◌, ◌+◌, ◌^◌, ◌<◌, ◌≤◌, ◌⊎◌, length, Decides};
 ghost use Rattle.elf.specs.Bytes.{le};
+ghost use Rattle.elf.specs.Records.{signed};
 
 use byteorder::{ByteOrder, LittleEndian};
 
-// One line for each width, as the library has a method for each.
+// One line each: its answer has the type of its width.
 pub(crate) fn u16_at(file: &[u8], at: usize) -> u16
     requires { at + 2 ≤ length file.now }
     ensures { result ≡ le file.now at 2 }
@@ -19,30 +20,36 @@ pub(crate) fn u32_at(file: &[u8], at: usize) -> u32
     LittleEndian::read_u32(&file[at..at + 4])
 }
 
-pub(crate) fn u64_at(file: &[u8], at: usize) -> u64
-    requires { at + 8 ≤ length file.now }
-    ensures { result ≡ le file.now at 8 }
-{
-    LittleEndian::read_u64(&file[at..at + 8])
-}
-
-// A number of an address's width.
+// A number of an address's width, 4 or 8 bytes. The width stays a number: offsets in a record are sums of it, and addresses are tested for being
+// multiples of it.
 pub(crate) fn word_at(file: &[u8], at: usize, width: usize) -> u64
     requires inside { at + width ≤ length file.now }
     requires width { (width ≡ 4) ⊎ (width ≡ 8) }
     ensures value { result ≡ le file.now at width }
     ensures bound { result < 256 ^ width }
 {
-    if width == 4 {
-        u32_at(file, at) as u64
-    } else {
-        u64_at(file, at)
-    }
+    LittleEndian::read_uint(&file[at..], width)
+}
+
+// A number of an address's width, read as a signed one.
+pub(crate) fn signed_at(file: &[u8], at: usize, width: usize) -> i64
+    requires inside { at + width ≤ length file.now }
+    requires width { (width ≡ 4) ⊎ (width ≡ 8) }
+    ensures { result ≡ signed width (le file.now at width) }
+{
+    LittleEndian::read_int(&file[at..], width)
 }
 
 // Whether the `length` bytes from `start` on hold the `size` bytes from `from` on.
-pub(crate) fn holds(start: u64, length: u64, from: u64, size: u64) -> bool
+pub fn holds(start: u64, length: u64, from: u64, size: u64) -> bool
     ensures { Decides result ((start ≤ from) × (from + size ≤ start + length)) }
 {
     start <= from && size <= length && from - start <= length - size
+}
+
+// Whether a file has the `size` bytes from an offset on.
+pub(crate) fn has(file: &[u8], offset: u64, size: u64) -> bool
+    ensures { Decides result (offset + size ≤ length file.now) }
+{
+    holds(0, file.len() as u64, offset, size)
 }

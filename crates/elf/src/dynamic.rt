@@ -1,5 +1,5 @@
 // The dynamic table of a position-independent file.
-ghost use Rattle.std.specs.Prelude.{◌≡◌, ◌+◌, ◌*◌, ◌<◌, ◌≤◌, true, Decides, MatchOption, MatchResult, ◌≢◌};
+ghost use Rattle.std.specs.Prelude.{◌≡◌, ◌<◌, ◌≤◌, true, Decides, MatchOption, MatchResult, ◌≢◌};
 ghost use Rattle.faults.specs.declared.fault.Layer.TheVariants.{Open};
 ghost use Rattle.faults.specs.Rules.{Checked};
 ghost use Rattle.faults.specs.declared.fault.Reason.TheVariants.{DynamicExtent, DynamicEnd, DynamicTag};
@@ -7,28 +7,27 @@ ghost use Rattle.elf.specs.Segments.{file_type, headers, offset_in, once, on_eac
 ghost use Rattle.elf.specs.Searches.{FirstOf};
 ghost use Rattle.elf.specs.Dynamic.{OtherDynamic, BadExtent, BadDynamic, has_dynamic, dynamic_header, dynamic_table, entry_in, entries, Endless, Barred, Describes, BadTag};
 
-use crate::bytes::{holds, u16_at};
+use crate::bytes::has;
 use crate::identity::refusal;
 use crate::kinds::{FileType, HeaderType, Tag};
 use crate::records::{DynamicEntry, ProgramHeader, Table};
 use crate::stages::{Dynamics, Headers, Records};
 use faults::fault::{Fault, Reason};
-use std::marker::PhantomData;
 
 impl<'a> Headers<'a> {
+    #[tactic(auto, unfolding(crate::specs::Records::file_header))]
     fn is_independent(&self) -> bool
         ensures { Decides result (file_type self.now.bytes.now ≡ 3) }
     {
-        u16_at(self.bytes, 16) == u16::from(FileType::Independent)
+        self.file_header().is(FileType::Independent)
     }
 
     fn has_bad_extent(&self, h: &ProgramHeader) -> bool
         ensures { Decides result (BadExtent self.now.layout self.now.bytes.now h.now) }
     {
-        let length = self.bytes.len() as u64;
         h.filesz > self.layout.limits.dynamic
             || h.filesz % self.layout.dynamic as u64 != 0
-            || !holds(0, length, h.offset, h.filesz)
+            || !has(self.bytes, h.offset, h.filesz)
     }
 
     // Whether the header `j` is a dynamic header of another number than `i`.
@@ -84,15 +83,12 @@ impl<'a> Dynamics<'a> {
         let i = self.headers.dynamic_header()?;
         let h = self.headers.get(i);
         let size = self.headers.layout.dynamic as u64;
-        Some(Records {
-            headers: self.headers,
-            table: Table {
-                first: h.offset,
-                size,
-                count: (h.filesz / size) as u32,
-            },
-            kind: PhantomData,
-        })
+        let table = Table {
+            first: h.offset,
+            size,
+            count: (h.filesz / size) as u32,
+        };
+        Some(Records::new(self.headers, table))
     }
 
     // The entries that are read: those before the first of tag 0.
@@ -101,22 +97,15 @@ impl<'a> Dynamics<'a> {
         ensures table { result.table ≡ entries self.now.headers.layout self.now.headers.bytes.now }
     {
         let Some(all) = self.table() else {
-            return Records {
-                headers: self.headers,
-                table: Table::none(self.headers.layout.dynamic),
-                kind: PhantomData,
-            };
+            return Records::new(self.headers, Table::none(self.headers.layout.dynamic));
         };
         let end = all.tagged(all.table.count, u64::from(Tag::Null));
-        Records {
-            headers: self.headers,
-            table: Table {
-                first: all.table.first,
-                size: self.headers.layout.dynamic as u64,
-                count: end.unwrap_or(all.table.count),
-            },
-            kind: PhantomData,
-        }
+        let table = Table {
+            first: all.table.first,
+            size: self.headers.layout.dynamic as u64,
+            count: end.unwrap_or(all.table.count),
+        };
+        Records::new(self.headers, table)
     }
 
     // The offset of the dynamic header, where the file has one.
@@ -140,10 +129,8 @@ impl<'a> Dynamics<'a> {
     fn is_endless(&self) -> bool
         ensures { Decides result (Endless self.now.headers.layout self.now.headers.bytes.now) }
     {
-        let Some(all) = self.table() else {
-            return false;
-        };
-        self.entries().table.count == all.table.count
+        let read = self.entries().table.count;
+        self.table().is_some_and(|all| all.table.count == read)
     }
 
     pub(crate) fn check_end(&self) -> Result<(), Fault>

@@ -1,12 +1,11 @@
 // The checks of the file's length, its identification, its header and the table of its program headers.
-ghost use Rattle.std.specs.Prelude.{◌≡◌, ℕ, ◌+◌, ◌*◌, ◌<◌, ◌≤◌, length, MatchOption, ◌≢◌, slice_index};
+ghost use Rattle.std.specs.Prelude.{◌≡◌, ℕ, ◌+◌, ◌<◌, ◌≤◌, ◌++◌, length, Decides, MatchOption, ◌≢◌, slice_index};
 ghost use Rattle.faults.specs.Rules.{Answers, Checked, Tried};
 ghost use Rattle.elf.specs.Searches.{Lowest};
 ghost use Rattle.elf.specs.Segments.{bad_length, bad_magic, bad_identity, identity_rules, kind_rules, size_rules, bad_count, past_end, table_rules, phnum};
 
-use crate::bytes::{u16_at, u32_at, word_at};
-use crate::kinds::{FileType, HeaderType};
-use crate::records::{HeaderReader, file_header};
+use crate::kinds::FileType;
+use crate::records::HeaderReader;
 use crate::stages::{File, HeadedFile, Headers};
 use faults::fault::{Fault, Layer, Reason};
 
@@ -14,6 +13,9 @@ const MAGIC: [u8; 4] = [0x7f, 0x45, 0x4c, 0x46];
 
 // The only machine that is taken, so no enum says more than the number.
 const RISCV: u16 = 243;
+
+// The bit of the flags that asks for the embedded base, which has half the registers. The only one that is refused, so no enum here either.
+const EMBEDDED: u32 = 3;
 
 // The refusal of a file as a whole: it names a place and no record.
 pub(crate) fn refusal(reason: Reason, place: u64) -> Fault
@@ -31,11 +33,18 @@ fn first_difference(file: &[u8], at: usize, expected: &[u8]) -> Option<usize>
 }
 
 impl<'a> File<'a> {
+    // Whether the file is long enough to have its header.
+    pub(crate) fn has_header(&self) -> bool
+        ensures { Decides result (self.now.layout.file.size ≤ length self.now.bytes.now) }
+    {
+        self.bytes.len() >= self.layout.file.size
+    }
+
     fn check_length(&self) -> Result<(), Fault>
         ensures { Checked (bad_length self.now.layout self.now.bytes.now) result }
     {
         let length = self.bytes.len();
-        if length < self.layout.file.size || length > self.layout.limits.file {
+        if !self.has_header() || length > self.layout.limits.file {
             return Err(refusal(Reason::FileLength, length as u64));
         }
         Ok(())
@@ -78,10 +87,10 @@ impl<'a> File<'a> {
 
 impl<'a> HeadedFile<'a> {
     #[tactic(auto, unfolding(crate::specs::Records::file_header))]
-    pub(crate) fn check_kind(&self) -> Result<(), Fault>
+    fn check_kind(&self) -> Result<(), Fault>
         ensures { Tried (kind_rules self.now.layout self.now.bytes.now) result }
     {
-        let header = file_header(self.layout, self.bytes);
+        let header = self.file_header();
         if !header.is(FileType::Static) && !header.is(FileType::Independent) {
             return Err(refusal(Reason::FileHeader, 16));
         }
@@ -95,12 +104,12 @@ impl<'a> HeadedFile<'a> {
     }
 
     #[tactic(auto, unfolding(crate::specs::Records::file_header))]
-    pub(crate) fn check_sizes(&self) -> Result<(), Fault>
+    fn check_sizes(&self) -> Result<(), Fault>
         ensures { Tried (size_rules self.now.layout self.now.bytes.now) result }
     {
         let l = self.layout;
-        let header = file_header(l, self.bytes);
-        if header.flags / 8 % 2 == 1 {
+        let header = self.file_header();
+        if (header.flags >> EMBEDDED) % 2 == 1 {
             return Err(refusal(Reason::FileHeader, l.file.flags as u64));
         }
         if header.ehsize as usize != l.file.size {
@@ -112,11 +121,12 @@ impl<'a> HeadedFile<'a> {
         Ok(())
     }
 
+    #[tactic(auto, unfolding(crate::specs::Records::file_header))]
     fn check_count(&self) -> Result<(), Fault>
         ensures { Checked (bad_count self.now.layout self.now.bytes.now) result }
     {
         let l = self.layout;
-        let count = u16_at(self.bytes, l.file.phnum);
+        let count = self.file_header().phnum;
         if count == 0 || count > l.limits.headers {
             return Err(refusal(Reason::HeaderCount, l.file.phnum as u64));
         }
@@ -125,14 +135,15 @@ impl<'a> HeadedFile<'a> {
 
     // Reads every program header, and refuses the file where its end cuts one short. Headers come from a reader and the first that is cut short
     // is refused where it is met: that is a rule of the project, so there is a loop and no chain.
+    #[tactic(auto, unfolding(crate::specs::Records::file_header))]
     fn check_inside(&self) -> Result<(), Fault>
         requires { 0 < phnum self.now.layout self.now.bytes.now }
         ensures { Checked (past_end self.now.layout self.now.bytes.now) result }
     {
         let l = self.layout;
-        let first = word_at(self.bytes, l.file.phoff, l.word);
-        let mut reader = HeaderReader::new(l, self.bytes, first);
-        for _i in 0..u16_at(self.bytes, l.file.phnum) {
+        let header = self.file_header();
+        let mut reader = HeaderReader::new(self.file(), header.phoff);
+        for _i in 0..header.phnum {
             let Some(_) = reader.next() else {
                 return Err(refusal(Reason::HeadersPastEnd, l.file.phoff as u64));
             };
@@ -140,8 +151,16 @@ impl<'a> HeadedFile<'a> {
         Ok(())
     }
 
-    // The file, with its program headers.
-    pub(crate) fn check_headers(&self) -> Result<Headers<'a>, Fault>
+    // The file, with its program headers: the rules on the header and on the table of program headers.
+    pub(crate) fn check(&self) -> Result<Headers<'a>, Fault>
+        ensures { Answers (kind_rules self.now.layout self.now.bytes.now ++ (size_rules self.now.layout self.now.bytes.now ++ table_rules self.now.layout self.now.bytes.now)) (λ h. (h.layout ≡ self.now.layout) × (h.bytes.now ≡ self.now.bytes.now)) result }
+    {
+        self.check_kind()?;
+        self.check_sizes()?;
+        self.check_headers()
+    }
+
+    fn check_headers(&self) -> Result<Headers<'a>, Fault>
         ensures { Answers (table_rules self.now.layout self.now.bytes.now) (λ h. (h.layout ≡ self.now.layout) × (h.bytes.now ≡ self.now.bytes.now)) result }
     {
         self.check_count()?;

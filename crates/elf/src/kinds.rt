@@ -1,6 +1,6 @@
 // The numbers by which a file says what it and its records are, as far as the loader knows them.
-ghost use Rattle.std.specs.Prelude.{◌≡◌, Decides};
-ghost use Rattle.elf.specs.Kinds.{file_number, header_number, relocation_number, tag_number};
+ghost use Rattle.std.specs.Prelude.{◌≡◌, ◌/◌, ◌%◌, ◌^◌, Decides};
+ghost use Rattle.elf.specs.Kinds.{access_number, file_number, header_number, relocation_number, tag_number};
 
 use crate::records::{DynamicEntry, FileHeader, ProgramHeader, Relocation};
 
@@ -31,13 +31,33 @@ pub enum RelocationType {
 pub enum Tag {
     Null = 0,
     Needed = 1,
+    JmpRelSize = 2,
     Rela = 7,
     RelaSize = 8,
     RelaEntry = 9,
     Rel = 17,
+    RelSize = 18,
     TextRel = 22,
     JmpRel = 23,
+    RelrSize = 35,
     Relr = 36,
+}
+
+// What a segment's flags let a program do with it: the numbers of the bits.
+#[derive(Clone, Copy, PartialEq, Eq, Debug)]
+pub enum Access {
+    Execute = 0,
+    Write = 1,
+    Read = 2,
+}
+
+impl Access {
+    // Whether flags allow it.
+    pub fn is_in(self, flags: u32) -> bool
+        ensures { Decides result (flags / 2 ^ access_number self % 2 ≡ 1) }
+    {
+        (flags >> self as u32) % 2 == 1
+    }
 }
 
 impl From<FileType> for u16 {

@@ -1,7 +1,7 @@
 // A reader of ELF files for RISC-V: it checks a file against the rules of the format, and answers its headers and relocations.
 #![tactic(auto)]
 
-mod bytes;
+pub mod bytes;
 mod dynamic;
 mod identity;
 pub mod kinds;

@@ -1,5 +1,5 @@
 // The checks of a file in their order, and the opened file.
-ghost use Rattle.std.specs.Prelude.{◌≡◌, ◌+◌, ◌*◌, ◌<◌, ◌≤◌, length, MatchOption};
+ghost use Rattle.std.specs.Prelude.{◌≡◌, ◌+◌, ◌<◌, ◌≤◌, length, MatchOption};
 ghost use Rattle.faults.specs.Rules.{Answers, Tried, Decided, InTurn};
 ghost use Rattle.elf.specs.Layouts.{elf64};
 ghost use Rattle.elf.specs.Records.{file_header, relocation_at};
@@ -9,11 +9,10 @@ ghost use Rattle.elf.specs.Dynamic.{dynamic_table, entry_in, relocation_in, form
 ghost use Rattle.elf.specs.Files.{HasHeader, HasEntry, Listing};
 ghost use Rattle.elf.specs.declared.records.Table.{Table as Rows};
 
-use crate::bytes::{holds, u16_at, word_at};
+use crate::bytes::has;
 use crate::kinds::HeaderType;
-use crate::layout::ELF64;
 use crate::records::{
-    DynamicEntry, FileHeader, HeaderReader, ProgramHeader, Record, Relocation, Table, file_header,
+    DynamicEntry, FileHeader, ProgramHeader, Record, Relocation, Table, file_header,
 };
 use crate::stages::{Dynamics, File, Headers};
 use faults::fault::Fault;
@@ -23,10 +22,7 @@ impl<'a> File<'a> {
     fn check_format(&self) -> Result<Dynamics<'a>, Fault>
         ensures { Answers (format_rules self.now.layout self.now.bytes.now) (λ d. (d.headers.layout ≡ self.now.layout) × (d.headers.bytes.now ≡ self.now.bytes.now)) result }
     {
-        let file = self.check_identity()?;
-        file.check_kind()?;
-        file.check_sizes()?;
-        let headers = file.check_headers()?;
+        let headers = self.check_identity()?.check()?;
         headers.check_segments()?;
         headers.check_dynamic()
     }
@@ -37,22 +33,28 @@ impl<'a> File<'a> {
         self.check_format()?.check_relocations()
     }
 
+    // The file header, where the file is long enough to have one.
+    fn file_header(&self) -> Option<FileHeader>
+        ensures { MatchOption result (length self.now.bytes.now < self.now.layout.file.size) (λ h. (self.now.layout.file.size ≤ length self.now.bytes.now) × (h ≡ file_header self.now.layout self.now.bytes.now)) }
+    {
+        if !self.has_header() {
+            return None;
+        }
+        Some(file_header(self.layout, self.bytes))
+    }
+
     // The program headers, where the file has its header and all of them within the limits.
+    #[tactic(auto, unfolding(crate::specs::Records::file_header))]
     fn headers(&self) -> Option<Headers<'a>>
         ensures { MatchOption result (Readable self.now.layout self.now.bytes.now → ⊥) (λ h. (h.layout ≡ self.now.layout) × (h.bytes.now ≡ self.now.bytes.now)) }
     {
         let l = self.layout;
-        let length = self.bytes.len();
-        if length < l.file.size || length > l.limits.file {
+        let header = self.file_header()?;
+        if self.bytes.len() > l.limits.file || header.phnum > l.limits.headers {
             return None;
         }
-        let first = word_at(self.bytes, l.file.phoff, l.word);
-        let count = u16_at(self.bytes, l.file.phnum);
-        if count > l.limits.headers {
-            return None;
-        }
-        let size = l.header.size as u64 * count as u64;
-        if !holds(0, length as u64, first, size) {
+        let size = l.header.size as u64 * header.phnum as u64;
+        if !has(self.bytes, header.phoff, size) {
             return None;
         }
         Some(Headers {
@@ -97,16 +99,12 @@ impl<'a> Headers<'a> {
         let d = self.first_of(HeaderType::Dynamic)?;
         let h = self.get(d);
         let size = self.layout.dynamic as u64;
-        let before = size * i as u64;
-        let length = self.bytes.len() as u64;
         if i as u64 >= h.filesz / size {
             return None;
         }
-        if !holds(0, length, h.offset, before + size) {
-            return None;
-        }
-        let at = (h.offset + before) as usize;
-        Some(DynamicEntry::read(self.layout, self.bytes, at))
+        let at = h.offset.checked_add(size * i as u64)?;
+        let file = self.file();
+        file.record(at)
     }
 }
 
@@ -159,26 +157,21 @@ impl<'a> Opened<'a> {
     pub fn file_header(&self) -> Option<FileHeader>
         ensures { MatchOption result (length self.now.file.now < 64) (λ h. (64 ≤ length self.now.file.now) × (h ≡ file_header elf64 self.now.file.now)) }
     {
-        let l = ELF64;
-        if self.file.len() < l.file.size {
-            return None;
-        }
-        Some(file_header(l, self.file))
+        File::elf64(self.file).file_header()
     }
 
     // The program header `i`, where the file has it whole.
+    #[tactic(auto, unfolding(crate::specs::Records::file_header))]
     pub fn header(&self, i: u32) -> Option<ProgramHeader>
         ensures { MatchOption result (HasHeader elf64 self.now.file.now i → ⊥) (λ h. HasHeader elf64 self.now.file.now i × (h ≡ header elf64 self.now.file.now i)) }
     {
-        let l = ELF64;
-        let file = self.file;
-        if file.len() < l.file.size || i >= u16_at(file, l.file.phnum) as u32 {
+        let file = File::elf64(self.file);
+        let header = file.file_header()?;
+        if i >= header.phnum as u32 {
             return None;
         }
-        let before = l.header.size as u64 * i as u64;
-        let at = word_at(file, l.file.phoff, l.word).checked_add(before)?;
-        let mut reader = HeaderReader::new(l, file, at);
-        reader.next()
+        let before = file.layout.header.size as u64 * i as u64;
+        file.record(header.phoff.checked_add(before)?)
     }
 
     // The entry `i` of the dynamic table, where the file has it whole.
@@ -215,11 +208,6 @@ impl<'a> Opened<'a> {
     pub fn relocation_at(&self, offset: u64) -> Option<Relocation>
         ensures { MatchOption result (length self.now.file.now < offset + 24) (λ x. (offset + 24 ≤ length self.now.file.now) × (x ≡ relocation_at elf64 self.now.file.now offset)) }
     {
-        let l = ELF64;
-        let length = self.file.len();
-        if length < l.relocation || offset > (length - l.relocation) as u64 {
-            return None;
-        }
-        Some(Relocation::read(l, self.file, offset as usize))
+        File::elf64(self.file).record(offset)
     }
 }

@@ -1,15 +1,16 @@
 // The records of an ELF file, each read from the file's bytes.
-ghost use Rattle.std.specs.Prelude.{◌≡◌, ℕ, ◌+◌, ◌*◌, ◌^◌, ◌<◌, ◌≤◌, ◌⊎◌, List, length, MatchOption};
+ghost use Rattle.std.specs.Prelude.{◌≡◌, ℕ, ◌+◌, ◌-◌, ◌*◌, ◌^◌, ◌<◌, ◌≤◌, List, length, MatchOption};
+ghost use Rattle.std.specs.Iterator.{at_most};
 ghost use Rattle.elf.specs.Layouts.{Sound};
-ghost use Rattle.elf.specs.Bytes.{le};
-ghost use Rattle.elf.specs.Records.{file_header, header_at, entry_at, relocation_at, signed};
+ghost use Rattle.elf.specs.Records.{file_header, header_at, entry_at, relocation_at};
 ghost use Rattle.elf.specs.Segments.{offset_in};
 ghost use Rattle.elf.specs.Dynamic.{none};
 ghost use Rattle.elf.specs.Props.{layout_props, entry_small, relocation_small};
 ghost use Rattle.elf.specs.declared.layout.Layout.{Layout as Shape};
 
-use crate::bytes::{u16_at, u32_at, u64_at, word_at};
+use crate::bytes::{signed_at, u16_at, u32_at, word_at};
 use crate::layout::Layout;
+use crate::stages::File;
 
 // The fields of the file header behind its identification. Here and below kinds and tags are numbers: a file may hold any, and `is` asks the enums.
 #[derive(Clone, Copy)]
@@ -58,7 +59,7 @@ pub struct Table {
     pub count: u32,
 }
 
-// Layout and bytes stand apart: `Opened::file_header` reads files past the limit on length too, which no stage carries.
+// Layout and bytes stand apart: the stages, which carry both, read by this.
 pub(crate) fn file_header(l: Layout, file: &[u8]) -> FileHeader
     requires { (Sound l) × (l.file.size ≤ length file.now) }
     ensures { result ≡ file_header l file.now }
@@ -76,12 +77,14 @@ pub(crate) fn file_header(l: Layout, file: &[u8]) -> FileHeader
     }
 }
 
-// A record of one of a file's tables: how many bytes it has in a layout, and how it is read from them. Here layout and bytes stand apart: the types
-// that carry both are made on this reading.
+// A record of one of a file's tables: how many bytes it has in a layout, and how it is read from them. Here too layout and bytes stand apart.
 pub(crate) trait Record: Copy {
     ghost width: { Shape → ℕ };
 
     ghost reads: { Shape → List ℕ → ℕ → Self };
+
+    fn size(l: Layout) -> usize
+        ensures { result ≡ width l };
 
     fn read(l: Layout, file: &[u8], at: usize) -> Self
         requires { (Sound l) × (at + width l ≤ length file.now) }
@@ -95,6 +98,10 @@ impl Record for ProgramHeader {
     ghost width = { λ l. l.header.size };
 
     ghost reads = { header_at };
+
+    fn size(l: Layout) -> usize {
+        l.header.size
+    }
 
     fn read(l: Layout, file: &[u8], at: usize) -> ProgramHeader {
         ProgramHeader {
@@ -116,6 +123,10 @@ impl Record for DynamicEntry {
 
     ghost reads = { entry_at };
 
+    fn size(l: Layout) -> usize {
+        l.dynamic
+    }
+
     fn read(l: Layout, file: &[u8], at: usize) -> DynamicEntry {
         DynamicEntry {
             tag: word_at(file, at, l.word),
@@ -126,23 +137,14 @@ impl Record for DynamicEntry {
     ghost small = { λ l sound. entry_small l sound };
 }
 
-// A number of an address's width, read as a signed one.
-fn signed_at(file: &[u8], at: usize, width: usize) -> i64
-    requires inside { at + width ≤ length file.now }
-    requires width { (width ≡ 4) ⊎ (width ≡ 8) }
-    ensures { result ≡ signed width (le file.now at width) }
-{
-    if width == 4 {
-        u32_at(file, at).cast_signed() as i64
-    } else {
-        u64_at(file, at).cast_signed()
-    }
-}
-
 impl Record for Relocation {
     ghost width = { λ l. l.relocation };
 
     ghost reads = { relocation_at };
+
+    fn size(l: Layout) -> usize {
+        l.relocation
+    }
 
     fn read(l: Layout, file: &[u8], at: usize) -> Relocation {
         let info = word_at(file, at + l.word, l.word);
@@ -160,33 +162,31 @@ impl Record for Relocation {
 // Reads one program header after the other.
 #[derive(Clone, Copy)]
 pub struct HeaderReader<'a> {
-    layout: Layout,
-    file: &'a [u8],
+    file: File<'a>,
     at: u64,
-    ghost sound: { Sound layout } by { Prim.hlevel layout_props },
 }
 
 impl<'a> HeaderReader<'a> {
     // A reader of the file's program headers from an offset on.
-    pub(crate) fn new(layout: Layout, file: &'a [u8], at: u64) -> HeaderReader<'a>
-        requires { Sound layout }
-        ensures { (result.layout ≡ layout) × (result.file.now ≡ file.now) × (result.at ≡ at) }
+    pub(crate) fn new(file: File<'a>, at: u64) -> HeaderReader<'a>
+        ensures { (result.file ≡ file.entry) × (result.at ≡ at) }
     {
-        HeaderReader { layout, file, at }
+        HeaderReader { file, at }
     }
+}
 
-    // The next header, or `None` where the file's end cuts it short: then the reader stays where it is.
-    pub(crate) fn next(&mut self) -> Option<ProgramHeader>
-        ensures read { MatchOption result ((length self.old.file.now < self.old.at + self.old.layout.header.size) × (self.new.at ≡ self.old.at)) (λ h. (self.old.at + self.old.layout.header.size ≤ length self.old.file.now) × (h ≡ header_at self.old.layout self.old.file.now self.old.at) × (self.new.at ≡ self.old.at + self.old.layout.header.size)) }
-        ensures same { (self.new.file.now ≡ self.old.file.now) × (self.new.layout ≡ self.old.layout) }
-    {
-        let at = self.at as usize;
-        let end = at.checked_add(self.layout.header.size)?;
-        if end > self.file.len() {
-            return None;
-        }
-        self.at = end as u64;
-        Some(ProgramHeader::read(self.layout, self.file, at))
+// `None` where the file's end cuts the next header short: then the reader stays where it is.
+impl Iterator for HeaderReader<'_> {
+    type Item = ProgramHeader;
+
+    ghost next_gives = { λ s r t. (t.file ≡ s.file) × MatchOption r ((length s.file.bytes.now < s.at + s.file.layout.header.size) × (t.at ≡ s.at)) (λ h. (s.at + s.file.layout.header.size ≤ length s.file.bytes.now) × (h ≡ header_at s.file.layout s.file.bytes.now s.at) × (t.at ≡ s.at + s.file.layout.header.size)) };
+
+    ghost remaining = { λ s. at_most (length s.file.bytes.now - s.at) };
+
+    fn next(&mut self) -> Option<ProgramHeader> {
+        let header = self.file.record(self.at)?;
+        self.at += self.file.layout.header.size as u64;
+        Some(header)
     }
 }
 

@@ -1,17 +1,15 @@
 // The rules on the relocations.
-ghost use Rattle.std.specs.Prelude.{◌≡◌, ◌+◌, ◌*◌, ◌<◌, ◌≤◌, Decides, [], ◌∷◌};
+ghost use Rattle.std.specs.Prelude.{◌≡◌, ◌<◌, Decides, [], ◌∷◌};
 ghost use Rattle.faults.specs.Rules.{Tried};
 ghost use Rattle.faults.specs.declared.fault.Reason.TheVariants.{RelocationType as WrongType, RelocationTarget};
 ghost use Rattle.elf.specs.Segments.{on_each, phnum};
 ghost use Rattle.elf.specs.Searches.{FirstOf};
 ghost use Rattle.elf.specs.Dynamic.{relocation_table, BadKind, BadTarget, Writable, relocation_rules};
 
-use crate::bytes::holds;
-use crate::kinds::{HeaderType, RelocationType};
+use crate::kinds::{Access, RelocationType};
 use crate::records::Relocation;
 use crate::stages::{Dynamics, Headers, Records};
 use faults::fault::{Fault, Reason};
-use std::marker::PhantomData;
 
 impl<'a> Headers<'a> {
     // Whether the memory of the writable segment `i` holds the word at an address.
@@ -19,9 +17,8 @@ impl<'a> Headers<'a> {
         requires { i < phnum self.now.layout self.now.bytes.now }
         ensures { Decides result (Writable self.now.layout self.now.bytes.now address i) }
     {
-        let h = self.get(i);
         let word = self.layout.word as u64;
-        h.is(HeaderType::Load) && h.flags / 2 % 2 == 1 && holds(h.vaddr, h.memsz, address, word)
+        self.get(i).grants(Access::Write, address, word)
     }
 
     // The first writable segment whose memory holds the word at an address.
@@ -68,11 +65,7 @@ impl<'a> Dynamics<'a> {
         ensures same { result.headers ≡ self.now.headers }
         ensures table { result.table ≡ relocation_table self.now.headers.layout self.now.headers.bytes.now }
     {
-        Records {
-            headers: self.headers,
-            table: self.relocation_table(),
-            kind: PhantomData,
-        }
+        Records::new(self.headers, self.relocation_table())
     }
 
     pub(crate) fn check_relocations(&self) -> Result<(), Fault>

@@ -1,5 +1,5 @@
 // The relocation table of a position-independent file.
-ghost use Rattle.std.specs.Prelude.{◌≡◌, ◌+◌, ◌*◌, ◌<◌, ◌≤◌, Decides, MatchOption};
+ghost use Rattle.std.specs.Prelude.{◌≡◌, ◌<◌, Decides, MatchOption};
 ghost use Rattle.faults.specs.Rules.{Answers, Checked};
 ghost use Rattle.faults.specs.declared.fault.Reason.TheVariants.{RelocationTable};
 ghost use Rattle.elf.specs.Kinds.{tag_number};

@@ -128,22 +128,17 @@ fn a_plan_past_a_refused_check(rt: HostRuntime) {
     assert_eq!(rt; word, [7; 8]);
 }
 
+fn window(first: u32, count: u32) -> PageRange {
+    PageRange { first, count }
+}
+
 #[test]
 fn pages_outside_and_shared(rt: HostRuntime) {
-    let ranges = [
-        PageRange {
-            first: 16,
-            count: 2,
-        },
-        PageRange {
-            first: 30,
-            count: 4,
-        },
-    ];
-    assert_eq!(rt; lowest_outside(&ranges, 0, 34), None);
-    assert_eq!(rt; lowest_outside(&ranges, 0, 33), Some(33));
-    assert_eq!(rt; lowest_outside(&ranges, 17, 100), Some(16));
-    assert_eq!(rt; lowest_outside(&ranges, 0, 0), Some(16));
+    let ranges = [window(16, 2), window(30, 4)];
+    assert_eq!(rt; lowest_outside(&ranges, window(0, 34)), None);
+    assert_eq!(rt; lowest_outside(&ranges, window(0, 33)), Some(33));
+    assert_eq!(rt; lowest_outside(&ranges, window(17, 100)), Some(16));
+    assert_eq!(rt; lowest_outside(&ranges, window(0, 0)), Some(16));
     let others = [
         PageRange {
             first: 18,

@@ -36,7 +36,7 @@ impl Image<'_> {
         span.fill(0, |a| self.file_byte(a));
     }
 
-    // The relocation `i` of the file's table.
+    // The relocation `i` of the file's table. The bound is on the argument, as with the reader's records.
     pub(crate) fn relocation(&self, i: u32) -> Relocation
         requires { i < self.now.table.count }
         ensures same { result ≡ relocation_in elf64 self.now.opened.file.now (relocation_table elf64 self.now.opened.file.now) i }

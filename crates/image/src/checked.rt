@@ -53,7 +53,7 @@ impl<'a> Checked<'a> {
         self.file_header().entry
     }
 
-    // The program header `i`.
+    // The program header `i`. The bound is on the argument, as in the reader.
     pub(crate) fn header(&self, i: u32) -> ProgramHeader
         requires { i < phnum elf64 self.now.opened.file.now }
         ensures { result ≡ header elf64 self.now.opened.file.now i }
@@ -70,15 +70,17 @@ impl<'a> Checked<'a> {
             .find(|i| self.header(*i).is(HeaderType::Load))
     }
 
-    // The end of the last load segment, without bias.
+    // The end of the last load segment, without bias. A `match`: in `map_or` the closure's sum would need two clauses of its own.
     fn end(&self) -> u64
         ensures { result ≡ end_below elf64 self.now.opened.file.now (phnum elf64 self.now.opened.file.now) }
     {
-        let Some(i) = self.last_load() else {
-            return 0;
-        };
-        let last = self.header(i);
-        last.vaddr + last.memsz
+        match self.last_load() {
+            None => 0,
+            Some(i) => {
+                let last = self.header(i);
+                last.vaddr + last.memsz
+            }
+        }
     }
 
     fn is_bad_bias(&self, bias: u64) -> bool

@@ -18,20 +18,19 @@ impl PageRange {
     }
 
     // The lowest page of the range outside a window.
-    fn outside(self, first: u32, count: u32) -> Option<u64>
-        ensures { LowestOf (λ p. Covers self p × Outside first count p) result }
+    fn outside(self, window: PageRange) -> Option<u64>
+        ensures { LowestOf (λ p. Covers self p × Outside window.first window.count p) result }
     {
         if self.count == 0 {
             return None;
         }
-        if self.first < first {
+        if self.first < window.first {
             return Some(self.first as u64);
         }
-        let end = first as u64 + count as u64;
-        if self.end() <= end {
+        if self.end() <= window.end() {
             return None;
         }
-        Some(end.max(self.first as u64))
+        Some(window.end().max(self.first as u64))
     }
 
     // The lowest page that the range shares with another.
@@ -54,13 +53,13 @@ impl PageRange {
     }
 }
 
-// The lowest page of the ranges outside the window of `count` pages from `first` on.
-pub fn lowest_outside(ranges: &[PageRange], first: u32, count: u32) -> Option<u64>
-    ensures { LowestOf (λ p. Covered ranges.now p × Outside first count p) result }
+// The lowest page of the ranges outside a window.
+pub fn lowest_outside(ranges: &[PageRange], window: PageRange) -> Option<u64>
+    ensures { LowestOf (λ p. Covered ranges.now p × Outside window.first window.count p) result }
 {
     ranges
         .iter()
-        .filter_map(|range| range.outside(first, count))
+        .filter_map(|range| range.outside(window))
         .min()
 }
 

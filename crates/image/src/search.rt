@@ -1,39 +1,33 @@
 // Searches among a file's segments.
-ghost use Rattle.std.specs.Prelude.{◌≡◌, ◌+◌, ◌<◌, ◌≤◌, ◌&&◌, map, find, length, MatchOption, nat_le, nat_lt, slice_index_or};
+ghost use Rattle.std.specs.Prelude.{◌≡◌, ◌<◌, ◌≤◌, map, find, length, MatchOption, slice_index_or};
 ghost use Rattle.std.specs.Option.{option_map};
 ghost use Rattle.image.specs.Pages.{page_count};
 ghost use Rattle.image.specs.Prescribed.{covers_page, has_file_byte, has_memory};
 ghost use Rattle.image.specs.Stages.{FirstBy, listed};
 
 use crate::segments::{Segment, Segments};
-
-// Whether an address is one of the `size` from `first` on.
-pub(crate) fn is_among(address: u64, first: u64, size: u64) -> bool
-    ensures { result ≡ (nat_le first address && nat_lt address (first + size)) }
-{
-    first <= address && address - first < size
-}
+use elf::bytes::holds;
 
 impl Segment {
     // Whether the segment covers a page.
     pub(crate) fn covers(&self, page: u64) -> bool
         ensures { result ≡ covers_page page self.now }
     {
-        is_among(page, self.pages.first as u64, self.pages.count as u64)
+        holds(self.pages.first as u64, self.pages.count as u64, page, 1)
     }
 
     // Whether an address lies in the segment's file bytes.
     pub(crate) fn has_file_byte(&self, address: u64) -> bool
         ensures { result ≡ has_file_byte address self.now }
     {
-        is_among(address, self.address, self.filesz)
+        holds(self.address, self.filesz, address, 1)
     }
 
     // Whether an address lies in the segment's memory.
     pub(crate) fn has_memory(&self, address: u64) -> bool
         ensures { result ≡ has_memory address self.now }
     {
-        is_among(address, self.address, self.memsz)
+        holds(self.address, self.memsz, address, 1)
     }
 }
 

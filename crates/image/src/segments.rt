@@ -16,7 +16,7 @@ pub struct Segment {
 }
 
 // At most 16 segments. There is no heap here: the list has its memory in it.
-// An array and a count, for an image is `Copy`, and the library's `ArrayVec` is not.
+// An array and a count, for `Segments` is `Copy`, and the library's `ArrayVec` is not.
 #[derive(Clone, Copy)]
 pub struct Segments {
     pub(crate) list: [Segment; 16],

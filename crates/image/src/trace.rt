@@ -9,19 +9,19 @@ ghost use Rattle.image.specs.Spans.{Kept};
 
 use crate::origin::Origin;
 use crate::prescribed::Image;
-use crate::search::is_among;
 use crate::span::Span;
+use elf::bytes::holds;
 use elf::kinds::RelocationType;
 use elf::layout::{ELF64, PAGE};
 
 impl Image<'_> {
-    // Whether the relocation `i` reaches an address.
+    // Whether the relocation `i` reaches an address. The bound is on the argument here too.
     fn reaches(&self, i: u32, address: u64) -> bool
         requires { i < self.now.table.count }
         ensures { result ≡ reaches elf64 self.now.bias address (relocation_in elf64 self.now.opened.file.now (relocation_table elf64 self.now.opened.file.now) i) }
     {
         let r = self.relocation(i);
-        r.is(RelocationType::Relative) && is_among(address, self.bias + r.offset, ELF64.word as u64)
+        r.is(RelocationType::Relative) && holds(self.bias + r.offset, ELF64.word as u64, address, 1)
     }
 
     // The last relocation that reaches an address.

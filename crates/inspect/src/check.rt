@@ -14,23 +14,8 @@ use std::env::Args;
 use std::io;
 use std::ops::Range;
 
-// The dynamic tags that give the sizes of relocation tables: PLTRELSZ, RELASZ, RELSZ and RELRSZ.
-#[derive(Clone, Copy)]
-enum TableSize {
-    JmpRel = 2,
-    Rela = 8,
-    Rel = 18,
-    Relr = 35,
-}
-
-impl TableSize {
-    const ALL: [TableSize; 4] = [
-        TableSize::JmpRel,
-        TableSize::Rela,
-        TableSize::Rel,
-        TableSize::Relr,
-    ];
-}
+// The dynamic tags that give the sizes of relocation tables.
+const TABLE_SIZES: [Tag; 4] = [Tag::JmpRelSize, Tag::RelaSize, Tag::RelSize, Tag::RelrSize];
 
 // The load headers of a file, each with its number among all headers.
 #[derive(Drop)]
@@ -94,7 +79,7 @@ fn has_ignored_relocations(opened: &Opened) -> bool {
             .map_while(|i| opened.dynamic_entry(i))
             .take_while(|entry| !entry.is(Tag::Null))
             .filter(|entry| entry.value != 0)
-            .any(|entry| TableSize::ALL.iter().any(|size| entry.tag == *size as u64))
+            .any(|entry| TABLE_SIZES.iter().any(|tag| entry.is(*tag)))
 }
 
 impl<R: Print> Report<'_, R> {

@@ -126,7 +126,7 @@ fn continues(before: &Option<Origin>, after: &Option<Origin>) -> bool {
     }
 }
 
-// The bytes from an address on, and where each comes from, line by line.
+// The bytes from an address on, and where each comes from, line by line: two buffers, for a plan fills one of each.
 #[derive(Drop)]
 struct Lines<'a> {
     address: u64,

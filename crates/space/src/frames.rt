@@ -1,7 +1,7 @@
 // Which frames of a space are free, in a lent buffer with one entry for each frame.
 // A free frame's entry is the next free frame, the last one's the number of frames. A used frame's entry is above that: 2^32 - 1 less its page.
 // The list of free frames runs through the lent entries: there is no heap, and a frame is given or taken in constant time.
-ghost use Rattle.std.specs.Prelude.{Decides};
+ghost use Rattle.std.specs.Prelude.{◌≡◌, ◌<◌, Decides, MatchOption};
 ghost use Rattle.space.specs.Frames.{pool, Released, Takes, Gives, IsUsed};
 
 // The number of frames stands beside the entries: the lent buffer may be longer, and a space of refused figures keeps it whole.
@@ -41,6 +41,13 @@ impl<'a> Frames<'a> {
         self.spare = self.total;
     }
 
+    // The first free frame, where one is free.
+    pub fn first_free(&self) -> Option<u32>
+        ensures { MatchOption result (self.now.spare ≡ 0) (λ f. (0 < self.now.spare) × (f ≡ self.now.head)) }
+    {
+        (self.spare > 0).then_some(self.head)
+    }
+
     // Gives the first free frame to a page.
     pub fn take(&mut self, page: u32) -> Option<u32>
         ensures { Takes page result (pool self.old) (pool self.new) }
@@ -72,9 +79,9 @@ impl<'a> Frames<'a> {
     pub fn is_used(&self, frame: u32) -> bool
         ensures { Decides result (IsUsed (pool self.now) frame) }
     {
-        let Some(entry) = self.entries.get(frame as usize) else {
-            return false;
-        };
-        frame < self.total && *entry > self.total
+        let total = self.total;
+        self.entries
+            .get(frame as usize)
+            .is_some_and(|entry| frame < total && *entry > total)
     }
 }

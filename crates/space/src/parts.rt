@@ -4,7 +4,7 @@ ghost use Rattle.space.specs.Meaning.{Lawful};
 
 use faults::fault::{Fault, Layer, Reason};
 
-// What a page is mapped to. The rights are a number and no enum: a call may ask for any number, and the refusal names it.
+// What a page is mapped to. The rights are a number and no enum: the interface counts them so, and what `map` is asked for may be any number.
 #[derive(Clone, Copy, PartialEq, Eq, Debug)]
 pub struct Mapping {
     pub frame: u32,

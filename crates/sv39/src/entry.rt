@@ -8,7 +8,8 @@ const PAGE_SHIFT: u32 = 10;
 // How many physical pages there are.
 const PAGES: u64 = 1 << 44;
 
-// The bits V, R, W, X, U, A and D of an entry, by their numbers.
+// The bits V, R, W, X, U, A and D of an entry, by their numbers. A bit is 0 or 1 here: rights and the test of a pointer are sums of bits.
+// Rights have bits of their own (2 read, 1 write, 0 execute), as in the flags of a file, which this crate doesn't know.
 #[derive(Clone, Copy, PartialEq, Eq, Debug)]
 enum Bit {
     Valid = 0,

@@ -6,8 +6,7 @@ ghost use Rattle.sv39.specs.Walks.{le, Inside, Finds, Ends};
 use crate::entry::{Entry, Leaf, Walk, is_malformed, is_pointing, page_in, rights_in};
 use byteorder::{ByteOrder, LittleEndian};
 
-// The eight bytes from a place on as a number, lowest byte first. One line over the library, as in `elf`: the crates have no common ground but
-// `faults`, and a public one would ask nothing of its caller and answer an option.
+// The eight bytes from a place on as a number, lowest byte first.
 pub(crate) fn u64_at(bytes: &[u8], at: usize) -> u64
     requires { at + 8 ≤ length bytes.now }
     ensures { result ≡ le bytes.now at 8 }

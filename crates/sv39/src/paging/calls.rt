@@ -44,6 +44,7 @@ impl<'a> Sv39<'a> {
         requires high { slot < 1024 + count self.now.figures }
         ensures { result ≡ mapping_in self.now.figures (word (memory_of self.now) slot) }
     {
+        // An entry of the leaf tables is 0 or a leaf, so no other case is told apart.
         let entry = self.tables.entry(slot);
         if entry == 0 {
             return None;
@@ -104,18 +105,18 @@ impl<'a> Space for Sv39<'a> {
         if self.mapping(slot).is_some() {
             return Err(page_refusal(Reason::PageMapped, page));
         }
-        if self.frames.spare == 0 {
+        let Some(frame) = self.frames.first_free() else {
             return Err(refusal(Reason::NoRoom, 0));
-        }
+        };
         if !is_lawful(rights) {
             return Err(refusal(Reason::RightsNumber, u64::from(rights)));
         }
-        let frame = self.frames.head;
         let entry = leaf_of(self.figures.origin() + u64::from(frame), rights);
         let at = self.figures.start(frame);
         self.tables.zero(at, 4096);
         self.tables.set_entry(slot, entry);
-        let _ = self.frames.take(page);
+        // The frame that `first_free` named.
+        self.frames.take(page);
         Ok(())
     }
 

@@ -6,7 +6,7 @@ use Rattle.image.proofs.ranges.lowest_outside.Goals as goal
 
 pub returns : goal.returns
 returns c =
-    let answer = outside_answer c.args.first c.args.count in
+    let answer = outside_answer c.args.window.first c.args.window.count in
     found_lowest _ answer c.args.ranges.now c.min.result
     (min_from_yields_List _ c.min.result c.min.ensures.ran
     (YieldsList-from_filter_map _ (λ r. (answer r).0) (YieldsList-from_slice c.args.ranges.now cc) c.filter_map.ensures.closure

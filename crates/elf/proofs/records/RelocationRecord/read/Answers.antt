@@ -1,6 +1,6 @@
 use Rattle.std.proofs.Common.{w64}
 use Rattle.elf.specs.Records.{relocation_at}
-use Rattle.elf.proofs.Signs.{there_and_back}
+use Rattle.elf.proofs.Numbers.{there_and_back}
 use Rattle.elf.proofs.records.RelocationRecord.read.Goals as goal
 
 pub returns : goal.returns

@@ -5,8 +5,8 @@ use Rattle.elf.specs.declared.records.ProgramHeader.{ProgramHeader}
 use Rattle.image.proofs.Known.{opened_known, sound64, end_none, end_last}
 use Rattle.image.proofs.checked.Checked.end.Goals as goal
 
-pub returns-in_default : goal.returns-in_default
-returns-in_default c = sym (end_none elf64 c.args.self.now.opened.file.now (phnum elf64 c.args.self.now.opened.file.now) c.in_default.ensures)
+pub returns-in-None : goal.returns-in-None
+returns-in-None c = sym (end_none elf64 c.args.self.now.opened.file.now (phnum elf64 c.args.self.now.opened.file.now) c.in-None.ensures)
 
 pub overflow_add-result : goal.overflow_add-result
 overflow_add-result c =
@@ -16,7 +16,7 @@ overflow_add-result c =
     let same = ap (λ (h : ProgramHeader). h.vaddr + h.memsz) c.header-last.ensures in
     record { fits = omega arith }
 
-pub returns : goal.returns
-returns c =
+pub returns-in-Some : goal.returns-in-Some
+returns-in-Some c =
     let b = c.args.self.now.opened.file.now in
     ap (λ (h : ProgramHeader). h.vaddr + h.memsz) c.header-last.ensures ∙ sym (end_last elf64 b (phnum elf64 b) c.in-Some.i c.in-Some.ensures)

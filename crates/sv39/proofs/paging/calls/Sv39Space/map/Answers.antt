@@ -17,16 +17,16 @@ pub zero-requires : goal.zero-requires
 zero-requires c =
     let t = c.args.self.now in
     let w : InWindow t c.args.page c.in_ok-slot.slot = c.in_ok-slot.ensures in
-    omega (arith, w.low, w.high, (head_lies t (omega (arith, w.low, w.high)) (omega arith)).1)
+    omega (arith, w.low, w.high, c.in-Some.ensures.1, (head_lies t (omega (arith, w.low, w.high)) c.in-Some.ensures.0).1)
 
 pub invariant_of-self : goal.invariant_of-self
 invariant_of-self c =
-    let s = map_step c.args.self.now c.args.page c.args.rights c.in_ok-slot.slot _ _ _ _ _ c.mapping.result c.take.result (pool c.take.new.self) c.in_ok-slot.ensures c.mapping.ensures c.if-is_some.ensures (omega arith) (c.if-not-is_lawful.ensures.0 refl)
-    (omega arith) (omega arith) c.leaf_of-entry.ensures c.zero.ensures c.set_entry.ensures c.take.ensures in
+    let s = map_step c.args.self.now c.args.page c.args.rights c.in_ok-slot.slot _ _ _ _ _ c.mapping.result c.take.result (pool c.take.new.self) c.in_ok-slot.ensures c.mapping.ensures c.if-is_some.ensures c.in-Some.ensures.0 (c.if-not-is_lawful.ensures.0 refl)
+    (omega (arith, c.in-Some.ensures.1)) (omega (arith, c.in-Some.ensures.1)) c.leaf_of-entry.ensures c.zero.ensures c.set_entry.ensures c.take.ensures in
     record { kept = s.0 }
 
 pub returns-clause-step : goal.returns-clause-step
 returns-clause-step c v =
-    let s = map_step c.args.self.now c.args.page c.args.rights c.in_ok-slot.slot _ _ _ _ _ c.mapping.result c.take.result (pool c.take.new.self) c.in_ok-slot.ensures c.mapping.ensures c.if-is_some.ensures (omega arith) (c.if-not-is_lawful.ensures.0 refl)
-    (omega arith) (omega arith) c.leaf_of-entry.ensures c.zero.ensures c.set_entry.ensures c.take.ensures in
+    let s = map_step c.args.self.now c.args.page c.args.rights c.in_ok-slot.slot _ _ _ _ _ c.mapping.result c.take.result (pool c.take.new.self) c.in_ok-slot.ensures c.mapping.ensures c.if-is_some.ensures c.in-Some.ensures.0 (c.if-not-is_lawful.ensures.0 refl)
+    (omega (arith, c.in-Some.ensures.1)) (omega (arith, c.in-Some.ensures.1)) c.leaf_of-entry.ensures c.zero.ensures c.set_entry.ensures c.take.ensures in
     (tt, s.1)
