@@ -1,5 +1,5 @@
 // What the calls on an address space take and answer.
-ghost use Rattle.std.specs.Prelude.{◌≡◌, Decides};
+ghost use Rattle.std.specs.Prelude.{◌≡◌, ◌*◌, Decides};
 ghost use Rattle.space.specs.Meaning.{Lawful};
 
 use faults::fault::{Fault, Layer, Reason};
@@ -31,4 +31,11 @@ pub fn refusal(reason: Reason, place: u64) -> Fault
     ensures { result ≡ record { reason = reason; layer = Layer.Space; «record» = 0; place = place } }
 {
     Fault::new(Layer::Space, reason, place)
+}
+
+// The same, of a page, which it names by its address.
+pub fn page_refusal(reason: Reason, page: u32) -> Fault
+    ensures { result ≡ record { reason = reason; layer = Layer.Space; «record» = 0; place = page * 4096 } }
+{
+    refusal(reason, u64::from(page) * 4096)
 }

@@ -11,15 +11,8 @@ ghost use Rattle.sv39.specs.Spaces.{always, memory_of, means, means_sound, InWin
 use crate::entry::{leaf_of, page_in, rights_in};
 use crate::paging::Sv39;
 use faults::fault::{Fault, Reason};
-use space::parts::{Bounds, Mapping, is_lawful, refusal};
+use space::parts::{Bounds, Mapping, is_lawful, page_refusal, refusal};
 use space::space::Space;
-
-// A refusal that names a page by its address.
-fn page_refusal(reason: Reason, page: u32) -> Fault
-    ensures { result ≡ record { reason = reason; layer = SpaceLayer; «record» = 0; place = page * 4096 } }
-{
-    refusal(reason, u64::from(page) * 4096)
-}
 
 impl<'a> Sv39<'a> {
     // The number of a page's entry in the tables, where the page lies in the window.

@@ -1,0 +1,9 @@
+pub mod Edits
+pub mod Mappings
+pub mod Orders
+pub mod Chains
+pub mod Joins
+pub mod Cuts
+pub mod Keeps
+pub mod Facts
+pub mod Makes

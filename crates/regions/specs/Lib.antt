@@ -1,0 +1,5 @@
+pub mod Runs
+pub mod Changes
+pub mod Setup
+pub mod Invariants
+pub mod Spaces
