@@ -10,4 +10,6 @@ mod planning;
 #[cfg(test)]
 mod reading;
 #[cfg(test)]
+mod spaces;
+#[cfg(test)]
 mod walking;

@@ -3,6 +3,7 @@ use crate::failure::Failure;
 use crate::plan::Extent;
 use crate::report::Report;
 use crate::sample::MODULE;
+use crate::spaces::show_spaces;
 use elf::opened::{Opened, open};
 use elf::records::Relocation;
 use image::plan::Plan;
@@ -96,5 +97,5 @@ pub(crate) fn demonstrate(rt: &HostRuntime) -> Result<(), Failure> {
     for damage in &DAMAGES {
         print_damaged(rt, damage)?;
     }
-    Ok(())
+    Ok(show_spaces(rt)?)
 }

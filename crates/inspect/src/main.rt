@@ -10,6 +10,7 @@ mod plan;
 mod report;
 mod rights;
 mod sample;
+mod spaces;
 mod usage;
 
 use check::check_files;
