@@ -1,4 +1,4 @@
-// Examples that are run: files that just break a rule, and files that just keep it.
+// Examples that are run: files and figures that just break a rule or just keep it, plans of files, walks through tables, and calls on address spaces.
 #![tactic(auto)]
 
 #[cfg(test)]

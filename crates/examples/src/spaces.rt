@@ -6,7 +6,7 @@ use faults::fault::{Fault, Reason};
 use regions::figures::Figures as ListFigures;
 use regions::list::RegionList;
 use regions::run::Run;
-use space::parts::{Bounds, refusal};
+use space::parts::{Bounds, Mapping, refusal};
 use space::space::Space;
 use space::tlb::Tlb;
 use std::process::Abort;
@@ -37,6 +37,7 @@ pub(crate) enum Call {
     Write(u32, u32, u8),
     Peek(u32),
     Poke(u32),
+    PastEnd(u32),
     Clear,
 }
 
@@ -48,6 +49,7 @@ pub(crate) enum Answer {
     Unmapped,
     Byte(u8),
     Refused(Fault),
+    RefusedAtFrame,
 }
 
 impl From<Result<(), Fault>> for Answer {
@@ -86,11 +88,28 @@ impl Call {
             },
             Call::Peek(frame) => space.peek(frame, 0).into(),
             Call::Poke(frame) => space.poke(frame, 0, 0xee).into(),
+            Call::PastEnd(page) => match space.look(page) {
+                Some(mapping) => past_end(space, mapping),
+                None => Answer::Unmapped,
+            },
             Call::Clear => {
                 space.clear();
                 Answer::Done
             }
         }
+    }
+}
+
+// What index 4,096 of a page's frame is answered: a refusal at the frame, whichever frame it is.
+fn past_end<S: Space>(space: &mut S, mapping: Mapping) -> Answer {
+    let refused = refusal(Reason::FrameUnused, u64::from(mapping.frame));
+    match space.poke(mapping.frame, 4096, 0xee) {
+        Err(fault) if fault == refused => {}
+        other => return other.into(),
+    }
+    match space.peek(mapping.frame, 4096) {
+        Err(fault) if fault == refused => Answer::RefusedAtFrame,
+        other => other.into(),
     }
 }
 
@@ -103,29 +122,21 @@ fn refused(reason: Reason, place: u64) -> Answer {
     Answer::Refused(refusal(reason, place))
 }
 
-// Mapping: who gets a page, who is refused, and by which rule first.
-fn mapping() -> [(Call, Answer); 16] {
+// Mapping: who gets a page, and when there is no frame any more.
+fn mapping() -> [(Call, Answer); 14] {
     [
         (Call::Look(FIRST), Answer::Unmapped),
-        (
-            Call::Map(FIRST - 1, 5),
-            of_page(Reason::OutsideWindow, FIRST - 1),
-        ),
-        (
-            Call::Map(FIRST + 512, 5),
-            of_page(Reason::OutsideWindow, FIRST + 512),
-        ),
         (Call::Map(FIRST, 5), Answer::Done),
         (Call::Map(FIRST, 7), of_page(Reason::PageMapped, FIRST)),
-        (Call::Map(FIRST + 1, 7), refused(Reason::RightsNumber, 7)),
-        (Call::Map(FIRST + 1, 0), refused(Reason::RightsNumber, 0)),
         (Call::Map(FIRST + 1, 6), Answer::Done),
         (Call::Map(FIRST + 2, 6), Answer::Done),
         (Call::Look(FIRST), Answer::Rights(5)),
         (Call::Look(FIRST + 1), Answer::Rights(6)),
         (Call::Look(FIRST + 3), Answer::Unmapped),
+        (Call::Look(FIRST - 1), Answer::Unmapped),
         (Call::Look(u32::MAX), Answer::Unmapped),
         (Call::Map(FIRST + 511, 1), Answer::Done),
+        (Call::Look(FIRST + 511), Answer::Rights(1)),
         (Call::Map(FIRST + 3, 7), refused(Reason::NoRoom, 0)),
         (
             Call::Map(FIRST + 1, 7),
@@ -134,11 +145,33 @@ fn mapping() -> [(Call, Answer); 16] {
     ]
 }
 
+// Pages outside the window, the rule before all others; and rights that no page may have.
+fn outside() -> [(Call, Answer); 12] {
+    let out_of_window = |page| of_page(Reason::OutsideWindow, page);
+    let rights = |rights| refused(Reason::RightsNumber, rights);
+    [
+        (Call::Map(FIRST - 1, 5), out_of_window(FIRST - 1)),
+        (Call::Map(FIRST - 1, 7), out_of_window(FIRST - 1)),
+        (Call::Map(FIRST + 512, 5), out_of_window(FIRST + 512)),
+        (Call::Map(u32::MAX, 5), out_of_window(u32::MAX)),
+        (Call::Unmap(FIRST - 1), out_of_window(FIRST - 1)),
+        (Call::Unmap(FIRST + 512), out_of_window(FIRST + 512)),
+        (Call::Unmap(u32::MAX), out_of_window(u32::MAX)),
+        (Call::Map(FIRST, 0), rights(0)),
+        (Call::Map(FIRST, 2), rights(2)),
+        (Call::Map(FIRST, 3), rights(3)),
+        (Call::Map(FIRST, 7), rights(7)),
+        (Call::Look(FIRST), Answer::Unmapped),
+    ]
+}
+
 // Bytes: each page has its own, a page begins with zeros, and what no page has is refused.
-fn bytes() -> [(Call, Answer); 12] {
+fn bytes() -> [(Call, Answer); 14] {
     [
         (Call::Write(FIRST + 1, 4095, 0xab), Answer::Done),
         (Call::Write(FIRST + 2, 0, 0xcd), Answer::Done),
+        (Call::PastEnd(FIRST + 1), Answer::RefusedAtFrame),
+        (Call::PastEnd(FIRST + 2), Answer::RefusedAtFrame),
         (Call::Read(FIRST + 1, 4095), Answer::Byte(0xab)),
         (Call::Read(FIRST + 1, 0), Answer::Byte(0)),
         (Call::Read(FIRST + 2, 0), Answer::Byte(0xcd)),
@@ -156,20 +189,12 @@ fn bytes() -> [(Call, Answer); 12] {
 }
 
 // Unmapping, and clearing.
-fn unmapping() -> [(Call, Answer); 14] {
+fn unmapping() -> [(Call, Answer); 13] {
     [
         (Call::Look(FIRST + 1), Answer::Unmapped),
         (
             Call::Unmap(FIRST + 1),
             of_page(Reason::PageUnmapped, FIRST + 1),
-        ),
-        (
-            Call::Unmap(FIRST - 1),
-            of_page(Reason::OutsideWindow, FIRST - 1),
-        ),
-        (
-            Call::Unmap(FIRST + 512),
-            of_page(Reason::OutsideWindow, FIRST + 512),
         ),
         (Call::Unmap(FIRST + 511), Answer::Done),
         (Call::Look(FIRST + 511), Answer::Unmapped),
@@ -179,8 +204,31 @@ fn unmapping() -> [(Call, Answer); 14] {
         (Call::Clear, Answer::Done),
         (Call::Look(FIRST + 1), Answer::Unmapped),
         (Call::Peek(0), refused(Reason::FrameUnused, 0)),
+        (Call::Poke(3), refused(Reason::FrameUnused, 3)),
         (Call::Map(FIRST + 1, 1), Answer::Done),
         (Call::Look(FIRST + 1), Answer::Rights(1)),
+    ]
+}
+
+// Two pages 16 apart, which have one place in a TLB, on a space with no other page mapped.
+fn sharing() -> [(Call, Answer); 15] {
+    let (page, other) = (FIRST, FIRST + 16);
+    [
+        (Call::Map(page, 5), Answer::Done),
+        (Call::Map(other, 6), Answer::Done),
+        (Call::Look(page), Answer::Rights(5)),
+        (Call::Look(other), Answer::Rights(6)),
+        (Call::Write(other, 0, 0x16), Answer::Done),
+        (Call::Write(page, 0, 0x01), Answer::Done),
+        (Call::Read(other, 0), Answer::Byte(0x16)),
+        (Call::Read(page, 0), Answer::Byte(0x01)),
+        (Call::Unmap(other), Answer::Done),
+        (Call::Look(page), Answer::Rights(5)),
+        (Call::Look(other), Answer::Unmapped),
+        (Call::Map(other, 4), Answer::Done),
+        (Call::Unmap(page), Answer::Done),
+        (Call::Look(other), Answer::Rights(4)),
+        (Call::Look(page), Answer::Unmapped),
     ]
 }
 
@@ -198,21 +246,24 @@ fn try_space<S: Space>(rt: &impl Abort, space: &mut S) {
         frames: 4,
     };
     assert_eq!(rt; space.bounds(), bounds);
+    try_calls(rt, space, &outside());
     try_calls(rt, space, &mapping());
     try_calls(rt, space, &bytes());
     try_calls(rt, space, &unmapping());
+    space.clear();
+    try_calls(rt, space, &sharing());
     assert_eq!(rt; space.bounds(), bounds);
 }
 
 #[test]
-fn in_page_tables(rt: HostRuntime) {
+fn page_tables_answer_every_call(rt: HostRuntime) {
     let mut memory = [0xff; 7 * 4096];
     let mut free = [0; 7];
     try_space(&rt, &mut Sv39::new(&mut memory, TABLES, &mut free));
 }
 
 #[test]
-fn in_a_region_list(rt: HostRuntime) {
+fn a_region_list_answers_every_call(rt: HostRuntime) {
     let mut memory = [0xff; 4 * 4096];
     let mut runs = [Run::default(); 4];
     let mut free = [0; 4];
@@ -223,7 +274,7 @@ fn in_a_region_list(rt: HostRuntime) {
 }
 
 #[test]
-fn in_page_tables_behind_a_tlb(rt: HostRuntime) {
+fn a_tlb_answers_as_the_page_tables_below(rt: HostRuntime) {
     let mut memory = [0xff; 7 * 4096];
     let mut free = [0; 7];
     let mut space = Sv39::new(&mut memory, TABLES, &mut free);
@@ -231,10 +282,11 @@ fn in_page_tables_behind_a_tlb(rt: HostRuntime) {
 }
 
 #[test]
-fn in_a_region_list_behind_two_tlbs(rt: HostRuntime) {
+fn two_tlbs_answer_as_the_region_list_below(rt: HostRuntime) {
     let mut memory = [0xff; 4 * 4096];
-    let mut runs = [Run::default(); 4];
-    let mut free = [0; 4];
+    // Buffers that are longer than the frames are many.
+    let mut runs = [Run::default(); 7];
+    let mut free = [0; 9];
     let mut space = RegionList::new(&mut memory, LIST, &mut runs, &mut free);
     let mut inner = Tlb::new(&mut space);
     try_space(&rt, &mut Tlb::new(&mut inner));

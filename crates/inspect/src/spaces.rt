@@ -1,4 +1,5 @@
 // A page that is mapped and unmapped in each kind of address space, for the demonstration.
+use crate::report::Report;
 use crate::rights::Rights;
 use faults::fault::Fault;
 use regions::figures::Figures as ListFigures;
@@ -70,8 +71,8 @@ impl<S: Space> Show for Tlb<'_, S> {
 // What a call on the page answered.
 fn print_answer<R: Print>(rt: &R, call: &str, answer: Result<(), Fault>) -> io::Result<()> {
     match answer {
-        Ok(()) => println!(rt; "  {call} {PAGE:#x}: done"),
-        Err(fault) => println!(rt; "  {call} {PAGE:#x}: {fault}"),
+        Ok(()) => println!(rt; "{call}: done"),
+        Err(fault) => Report::new(rt, call).refused(&fault),
     }
 }
 
@@ -86,7 +87,9 @@ fn map_and_unmap<S: Show, R: Print>(rt: &R, space: &mut S) -> io::Result<()> {
 }
 
 pub(crate) fn show_spaces<R: Print>(rt: &R) -> io::Result<()> {
-    rt.println("a page in Sv39 tables at 0x80000000, which take the first 3 of 5 frames")?;
+    println!(rt;
+        "page {PAGE:#x} in Sv39 tables at 0x80000000, which take the first 3 of 5 frames"
+    )?;
     let figures = Figures {
         base: 0x8000_0000,
         gigabyte: 2,

@@ -3,7 +3,7 @@ use Rattle.std.proofs.Common.{◌≡◌, ℕ, zero, suc, ◌+◌, ◌<◌, ◌�
 use Rattle.std.specs.List.{slice_get}
 use Rattle.std.proofs.lemmas.Option.{slice_get_cases}
 use Rattle.regions.specs.declared.run.Run.{Run}
-use Rattle.regions.specs.Runs.{Meets}
+use Rattle.regions.specs.Runs.{Meets, Apart}
 use Rattle.regions.proofs.Orders.{get_dropped}
 
 -- The run does not go on where the run before it ends, if there is one.
@@ -15,10 +15,6 @@ Aside (Some x) r = Meets x r → ⊥
 abbrev pub Chain : Option Run → List Run → Type 0
 Chain o [] = Unit {0}
 Chain o (r ∷ rs) = Aside o r × Chain (Some r) rs
-
--- The same, said of neighbours.
-abbrev pub Pairs : List Run → Type 0
-Pairs rs = (i : ℕ) (r s : Run) → slice_get rs i ≡ Some r → slice_get rs (suc i) ≡ Some s → Meets r s → ⊥
 
 -- The last run of a list behind another.
 abbrev pub final : Option Run → List Run → Option Run
@@ -33,7 +29,7 @@ pub chain_joined : (o : Option Run) (rs ss : List Run) → Chain o rs → Chain 
 chain_joined o [] ss c d = d
 chain_joined o (r ∷ rs) ss c d = (c.0, chain_joined (Some r) rs ss c.1 d)
 
-pub chain_from : (o : Option Run) (rs : List Run) → ((r : Run) → slice_get rs 0 ≡ Some r → Aside o r) → Pairs rs → Chain o rs
+pub chain_from : (o : Option Run) (rs : List Run) → ((r : Run) → slice_get rs 0 ≡ Some r → Aside o r) → Apart rs → Chain o rs
 chain_from o [] h p = tt
 chain_from o (r ∷ rs) h p = (h r refl, chain_from (Some r) rs (λ s e. p 0 r s refl e) (λ i a b e f. p (suc i) a b e f))
 
@@ -42,7 +38,7 @@ chain_first : (t : Run) (rs : List Run) (r s : Run) → Chain (Some t) rs → t 
 chain_first t [] r s c e f m = cc
 chain_first t (u ∷ us) r s c e f m = let is : s ≡ u = cc in c.0 (subst (λ v. Meets t v) is (subst (λ v. Meets v s) (sym e) m))
 
-pub chain_pairs : (o : Option Run) (rs : List Run) → Chain o rs → Pairs rs
+pub chain_pairs : (o : Option Run) (rs : List Run) → Chain o rs → Apart rs
 chain_pairs o [] c i r s e f m = cc
 chain_pairs o (t ∷ rs) c zero r s e f m = let is : t ≡ r = cc in chain_first t rs r s c.1 is f m
 chain_pairs o (t ∷ rs) c (suc i) r s e f m = chain_pairs (Some t) rs c.1 i r s e f m
@@ -53,7 +49,7 @@ final_taken j [] o x e = cc
 final_taken zero (r ∷ rs) o x e = e
 final_taken (suc j) (r ∷ rs) o x e = final_taken j rs (Some r) x e
 
--- A run that does not go on where the run before place k ends.
+-- A run that does not go on where the run before run k ends.
 pub aside_taken : (k : ℕ) (rs : List Run) (t : Run) → k ≤ length rs → ((j : ℕ) (x : Run) → k ≡ suc j → slice_get rs j ≡ Some x → Meets x t → ⊥) → Aside (final None (take k rs)) t
 aside_taken zero rs t l none = tt
 aside_taken (suc j) rs t l none = ⊎_elim
@@ -67,6 +63,6 @@ chain_swapped r s [] same c = tt
 chain_swapped r s (y ∷ ys) same c = (λ m. c.0 (same y m), c.1)
 
 -- What is left behind the first k runs.
-pub pairs_dropped : (k : ℕ) (rs : List Run) → Pairs rs → Pairs (drop k rs)
+pub pairs_dropped : (k : ℕ) (rs : List Run) → Apart rs → Apart (drop k rs)
 pairs_dropped k rs p i r s e f =
     p (k + i) r s (sym (get_dropped k rs i) ∙ e) (ap (slice_get rs) (let n : suc (k + i) ≡ k + suc i = omega arith in n) ∙ sym (get_dropped k rs (suc i)) ∙ f)

@@ -5,8 +5,8 @@ use Rattle.std.proofs.lemmas.List.Sums.{sum_by-append, sum_by-cons}
 use Rattle.std.proofs.lemmas.Option.{slice_get_within}
 use Rattle.regions.specs.declared.run.Run.{Run}
 use Rattle.regions.specs.declared.runs.Runs.{Runs}
-use Rattle.regions.specs.Runs.{Holds, mapping_of, in_order, InOrder, pages, before, after, in_use}
-use Rattle.regions.specs.Changes.{Cuttable, Changed}
+use Rattle.regions.specs.Runs.{Holds, mapping_of, in_order, InOrder, pages, in_use}
+use Rattle.regions.specs.Changes.{before, after, Cuttable, Changed}
 use Rattle.regions.proofs.Mappings.{head, ascending_more, held_or_not, mapping_here, mapping_later, unheld_none, before_later}
 use Rattle.regions.proofs.Orders.{last, order_parts, order_joined, order_earlier, get_taken, get_dropped, split_at, written, used_long}
 use Rattle.regions.proofs.Chains.{Aside, Chain, final, chain_parts, chain_joined, chain_from, chain_pairs, chain_swapped}

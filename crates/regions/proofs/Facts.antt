@@ -13,9 +13,10 @@ use Rattle.space.specs.Frames.{Pool, pool, IsUsed, Takes, Gives}
 use Rattle.space.specs.Calls.{Mapped, Unmapped, Poked, Maps, Unmaps, Pokes, map_rules}
 use Rattle.space.proofs.Bookings.{ready, held_used}
 use Rattle.regions.specs.declared.run.Run.{Run}
+use Rattle.regions.specs.declared.runs.Runs.{Runs}
 use Rattle.regions.specs.declared.list.RegionList.{RegionList}
-use Rattle.regions.specs.Runs.{Holds, HeldBy, Unheld, mapping_in, mapping_of, in_order, pages}
-use Rattle.regions.specs.Changes.{Cuttable, Changed}
+use Rattle.regions.specs.Runs.{Holds, HeldBy, mapping_in, mapping_of, in_order, pages, in_use, slots}
+use Rattle.regions.specs.Changes.{Unheld, Cuttable, Changed}
 use Rattle.regions.specs.Setup.{first, count}
 use Rattle.regions.specs.Invariants.{place, meant, Kept}
 use Rattle.regions.specs.Spaces.{memory_of, runs_of, means, IsByte, Lists}
@@ -84,7 +85,7 @@ lists t = record {
       let d : r.first + k - r.first ≡ k = omega arith in
       held_some 0 (2 ^ 26) (runs_of t) i r (r.first + k) t.kept.order.ascending e (omega arith, omega arith)
       ∙ ap (λ n. Some (record { frame = r.frame + n; rights = r.rights })) d;
-  held = λ p h e. let g = given_by (runs_of t) p h e in (g.place, (g.run, g.at, g.holds));
+  held = λ p h e. let g = given_by (runs_of t) p h e in (g.slot, (g.run, g.at, g.holds));
 }
 
 -- A page in the window is not outside it.
@@ -105,7 +106,7 @@ used t f h = held_used (first t.figures) (count t.figures) (means t) (pool t.fra
 pub record Room (t : RegionList) : Type 0 where
   pub below : t.frames.head < t.frames.total
   pub within : place t.frames.head 0 + 4096 ≤ length (memory_of t)
-  pub slot : t.runs.used < length t.runs.buffer.now
+  pub slot : t.runs.used < slots t.runs
   pub some : mapped (means t) ≡ t.frames.total → ⊥
 
 pub room : (t : RegionList) → 0 < t.frames.spare → Room t
@@ -114,7 +115,7 @@ room t some =
     let l = long 0 (2 ^ 26) (runs_of t) t.kept.order.ascending in
     record {
       below = r.below;
-      within = omega (arith, r.below, t.kept.whole);
+      within = omega (arith, r.below, t.kept.contained);
       slot = omega (arith, used_long t.runs, t.kept.counted, t.kept.room);
       some = λ e. let c = t.kept.booked.counted in omega arith;
     }
@@ -128,6 +129,26 @@ cuttable t p i (r, e, l) = record {
   frames = omega (arith, run_frames t i r e, t.kept.booked.few);
   room = λ h. omega (arith, longer 0 (2 ^ 26) (runs_of t) i r t.kept.order.ascending e, used_long t.runs, t.kept.counted, t.kept.room);
 }
+
+-- A page that may be mapped where a frame is free: it lies in the window, and no run holds it.
+pub record Mappable (t : RegionList) (p : ℕ) : Type 0 where
+  pub within : Outside (means t) p → ⊥
+  pub unheld : Unheld (runs_of t) p
+  pub unmapped : IsMapped (means t) p → ⊥
+
+pub mappable : (t : RegionList) (p : ℕ) (o : Option ℕ) → Clear (single OutsideWindow Space 0 (p * 4096) (Outside (means t) p)) → MatchOption o (Unheld (runs_of t) p) (λ i. HeldBy (runs_of t) p i) → is_some o ≡ false → Mappable t p
+mappable t p o clear found none =
+    let unheld = found_none t p o found none in
+    record { within = inside t p clear; unheld = unheld; unmapped = unheld_unmapped t p unheld }
+
+-- The first free frame, and that there is none.
+pub first_frame : (t : RegionList) (o : Option ℕ) (f : ℕ) → MatchOption o (t.frames.spare ≡ 0) (λ g. (0 < t.frames.spare) × (g ≡ t.frames.head)) → o ≡ Some f → (0 < t.frames.spare) × (f ≡ t.frames.head)
+first_frame t None f found is = cc
+first_frame t (Some g) f found is = let same : g ≡ f = cc in subst (λ n. (0 < t.frames.spare) × (n ≡ t.frames.head)) same found
+
+pub none_free : (t : RegionList) (o : Option ℕ) → MatchOption o (t.frames.spare ≡ 0) (λ g. (0 < t.frames.spare) × (g ≡ t.frames.head)) → is_some o ≡ false → mapped (means t) ≡ t.frames.total
+none_free t None found is = omega (arith, t.kept.booked.counted)
+none_free t (Some g) found is = cc
 
 -- What refuses rights that are not lawful.
 pub rights_refused : (m : Meaning) (p r : ℕ) (f : Fault) → (Outside m p → ⊥) → (IsMapped m p → ⊥) → (mapped m ≡ m.frames → ⊥) → (Lawful r → ⊥) → f ≡ record { reason = RightsNumber; layer = Space; «record» = 0; place = r } → First (map_rules m p r) f
@@ -145,52 +166,62 @@ pub record Stepped (t : RegionList) (m : List ℕ) (ss : List Run) (slots : ℕ)
   pub kept : Kept t.figures m ss slots y
   pub does : Does
 
+-- What the runs and the frames come to where a page is mapped, once the memory is m.
+abbrev pub MapDone : RegionList → ℕ → ℕ → List ℕ → Runs → Pool → Type 0
+MapDone t p r m x y = Stepped t m (in_use x) (slots x) y (Maps p r (Ok tt) (means t) (meant t.figures y.total m (in_use x)))
+
 -- The steps of a mapping: the first free frame is wiped, the page comes to the runs, the frame is taken.
-pub map_step : (t : RegionList) (p r f : ℕ) (m : List ℕ) (ss : List Run) (slots : ℕ) (o : Option ℕ) (y : Pool) → (Outside (means t) p → ⊥) → Unheld (runs_of t) p → (0 < t.frames.spare) × (f ≡ t.frames.head) → Lawful r
-    → Wiped (f * 4096) 4096 (memory_of t) m → Changed p (Some (record { frame = f; rights = r })) (runs_of t) ss → pages ss ≡ pages (runs_of t) + 1 → slots ≡ length t.runs.buffer.now
-    → Takes p o (pool t.frames) y → Stepped t m ss slots y (Maps p r (Ok tt) (means t) (meant t.figures y.total m ss))
-map_step t p r f m ss slots o y within unheld (some, is) lawful wiped put more same takes =
+pub map_step : (t : RegionList) (p r f : ℕ) (m : List ℕ) (x : Runs) (o : Option ℕ) (y : Pool) → Mappable t p → (0 < t.frames.spare) × (f ≡ t.frames.head) → Lawful r
+    → Wiped (f * 4096) 4096 (memory_of t) m → Changed p (Some (record { frame = f; rights = r })) (runs_of t) (in_use x) → pages (in_use x) ≡ pages (runs_of t) + 1 → slots x ≡ slots t.runs
+    → Takes p o (pool t.frames) y → MapDone t p r m x y
+map_step t p r f m x o y new (some, is) lawful wiped put more same takes =
+    let ss = in_use x in
     let changed = subst (λ n. Changed p (Some (record { frame = n; rights = r })) (runs_of t) ss) is put in
-    let w = in_window t p within in
-    let gone = unheld_none (runs_of t) p unheld in
+    let w = in_window t p new.within in
+    let gone = unheld_none (runs_of t) p new.unheld in
     let lies_in = (room t some).within in
     let at : f * 4096 ≡ place t.frames.head 0 = omega arith in
     let z : Zeroed (place t.frames.head 0) 4096 (memory_of t) m = subst (λ n. Zeroed n 4096 (memory_of t) m) at (wiped.zeroed (omega arith)) in
     let y_is = takes_some t p o y some takes in
     record {
       kept = subst (λ n. Kept t.figures m ss n y) (sym same)
-          (subst (Kept t.figures m ss (length t.runs.buffer.now)) (sym y_is) (kept_map t.figures (memory_of t) (runs_of t) _ (pool t.frames) t.kept p r w.0 w.1 gone some lawful m ss z changed more));
+          (subst (Kept t.figures m ss (slots t.runs)) (sym y_is) (kept_map t.figures (memory_of t) (runs_of t) _ (pool t.frames) t.kept p r w.0 w.1 gone some lawful m ss z changed more));
       does = (
-        (let unmapped : IsMapped (means t) p → ⊥ = unheld_unmapped t p unheld in let full = (room t some).some in search rules),
-        subst (λ (x : Pool). Mapped p r (means t) (meant t.figures x.total m ss)) (sym y_is)
+        (let within = new.within in let unmapped = new.unmapped in let full = (room t some).some in search rules),
+        subst (λ (u : Pool). Mapped p r (means t) (meant t.figures u.total m ss)) (sym y_is)
             (does_map t.figures (memory_of t) (runs_of t) _ (pool t.frames) t.kept p r w.0 w.1 gone some lawful m ss z changed more),
       );
     }
 
+-- What the runs and the frames come to where a page is unmapped.
+abbrev pub UnmapDone : RegionList → ℕ → Runs → Pool → Type 0
+UnmapDone t p x y = Stepped t (memory_of t) (in_use x) (slots x) y (Unmaps p (Ok tt) (means t) (meant t.figures y.total (memory_of t) (in_use x)))
+
 -- The steps of an unmapping: the page is cut out of its run, and its frame is given back.
-pub unmap_step : (t : RegionList) (p : ℕ) (h : Mapping) (ss : List Run) (slots : ℕ) (y : Pool) → (Outside (means t) p → ⊥) → mapping_of (runs_of t) p ≡ Some h → Changed p None (runs_of t) ss → pages ss + 1 ≡ pages (runs_of t)
-    → slots ≡ length t.runs.buffer.now → Gives h.frame (pool t.frames) y → Stepped t (memory_of t) ss slots y (Unmaps p (Ok tt) (means t) (meant t.figures y.total (memory_of t) ss))
-unmap_step t p h ss slots y within was changed less same gives =
+pub unmap_step : (t : RegionList) (p : ℕ) (h : Mapping) (x : Runs) (y : Pool) → (Outside (means t) p → ⊥) → mapping_of (runs_of t) p ≡ Some h → Changed p None (runs_of t) (in_use x) → pages (in_use x) + 1 ≡ pages (runs_of t)
+    → slots x ≡ slots t.runs → Gives h.frame (pool t.frames) y → UnmapDone t p x y
+unmap_step t p h x y within was changed less same gives =
+    let ss = in_use x in
     let frame = t.kept.booked.below p h was in
     let y_is : y ≡ given (pool t.frames) h.frame = gives.given (omega (arith, frame, t.kept.booked.room)) (omega (arith, t.kept.booked.counted, t.kept.booked.few)) in
     record {
       kept = subst (λ n. Kept t.figures (memory_of t) ss n y) (sym same)
-          (subst (Kept t.figures (memory_of t) ss (length t.runs.buffer.now)) (sym y_is) (kept_unmap t.figures (memory_of t) (runs_of t) _ (pool t.frames) t.kept p h was ss changed less));
+          (subst (Kept t.figures (memory_of t) ss (slots t.runs)) (sym y_is) (kept_unmap t.figures (memory_of t) (runs_of t) _ (pool t.frames) t.kept p h was ss changed less));
       does = (
         (let mapped_p : IsMapped (means t) p = (h, was) in search rules),
-        subst (λ (x : Pool). Unmapped p (means t) (meant t.figures x.total (memory_of t) ss)) (sym y_is)
+        subst (λ (u : Pool). Unmapped p (means t) (meant t.figures u.total (memory_of t) ss)) (sym y_is)
             (does_unmap t.figures (memory_of t) (runs_of t) _ (pool t.frames) t.kept p h was ss changed less),
       );
     }
 
 -- The step of a poke: a byte comes to its place.
 pub poke_step : (t : RegionList) (f i at b : ℕ) (m : List ℕ) → IsByte t f i at → b < 256 → m ≡ set (memory_of t) at b
-    → Stepped t m (runs_of t) (length t.runs.buffer.now) (pool t.frames) (Pokes f i b (Ok tt) (means t) (meant t.figures t.frames.total m (runs_of t)))
+    → Stepped t m (runs_of t) (slots t.runs) (pool t.frames) (Pokes f i b (Ok tt) (means t) (meant t.figures t.frames.total m (runs_of t)))
 poke_step t f i at b m byte small is =
     let within : place f i < length (memory_of t) = subst (λ n. n < length (memory_of t)) byte.place byte.within in
     let e = sym (is ∙ ap (λ n. set (memory_of t) n b) byte.place) in
     record {
-      kept = subst (λ l. Kept t.figures l (runs_of t) (length t.runs.buffer.now) (pool t.frames)) e (kept_poke t.figures (memory_of t) (runs_of t) _ (pool t.frames) t.kept f i b byte.small within small);
+      kept = subst (λ l. Kept t.figures l (runs_of t) (slots t.runs) (pool t.frames)) e (kept_poke t.figures (memory_of t) (runs_of t) _ (pool t.frames) t.kept f i b byte.small within small);
       does = (
         (let held = byte.held in let low = byte.small in search rules),
         subst (λ l. Poked f i b (means t) (meant t.figures t.frames.total l (runs_of t))) e (does_poke t.figures (memory_of t) (runs_of t) _ (pool t.frames) t.kept f i b byte.small within),

@@ -8,11 +8,11 @@ use Rattle.std.proofs.lemmas.Option.{slice_get_within}
 use Rattle.std.proofs.lemmas.List.Sums.{sum_by-append, sum_by-cons, sum_by-insert}
 use Rattle.space.specs.declared.parts.Mapping.{Mapping}
 use Rattle.regions.specs.declared.run.Run.{Run}
-use Rattle.regions.specs.Runs.{Holds, Unheld, Meets, mapping_of, in_order, InOrder, pages, single, joined}
-use Rattle.regions.specs.Changes.{Place, TakesNext, Joins, Changed}
+use Rattle.regions.specs.Runs.{Holds, Meets, mapping_of, in_order, InOrder, Apart, pages}
+use Rattle.regions.specs.Changes.{single, joined, Unheld, Slot, TakesNext, Joins, Changed}
 use Rattle.regions.proofs.Mappings.{head, ascending_more, held_or_not, mapping_here, mapping_later, mapping_joined, unheld_none, lies}
 use Rattle.regions.proofs.Orders.{last, order_parts, order_joined, order_from, last_below, get_taken, get_dropped, drop_at, take_suc, written}
-use Rattle.regions.proofs.Chains.{Aside, Chain, Pairs, final, chain_parts, chain_joined, chain_from, chain_pairs, chain_swapped, pairs_dropped, aside_taken}
+use Rattle.regions.proofs.Chains.{Aside, Chain, final, chain_parts, chain_joined, chain_from, chain_pairs, chain_swapped, pairs_dropped, aside_taken}
 
 -- What two lists say behind a third, where they say the same.
 pub behind : (xs ys zs : List Run) (q : ℕ) → mapping_of zs q ≡ mapping_of ys q → mapping_of (xs ++ zs) q ≡ mapping_of (xs ++ ys) q
@@ -41,8 +41,8 @@ pub record Puts (p : ℕ) (o : Option Mapping) (rs ss : List Run) : Type 0 where
 puts_alike : (p : ℕ) (o : Option Mapping) (rs ss ts : List Run) → Puts p o rs ss → Alike ss ts → Puts p o rs ts
 puts_alike p o rs ss ts c a = record { here = a.page p ∙ c.here; page = λ q ne. a.page q ∙ c.page q ne; ascending = a.ascending c.ascending; count = a.count ∙ c.count }
 
--- A page that no run holds is put in its place.
-module _ (rs : List Run) (p : ℕ) (h : Mapping) (k : ℕ) (o : in_order 0 (2 ^ 26) rs ≡ true) (none : Unheld rs p) (high : p < 2 ^ 26) (at : Place rs p k) where
+-- A page that no run holds is put into its slot.
+module _ (rs : List Run) (p : ℕ) (h : Mapping) (k : ℕ) (o : in_order 0 (2 ^ 26) rs ≡ true) (none : Unheld rs p) (high : p < 2 ^ 26) (at : Slot rs p k) where
   front_none : Unheld (take k rs) p
   front_none i r e l = none i r (get_taken k rs i r e).1 l
 
@@ -126,7 +126,7 @@ record Taken (rs : List Run) (k : ℕ) (s : Run) (ss : List Run) (t : Run) : Typ
   alike : Alike (take k rs ++ s ∷ drop k rs) (take k rs ++ t ∷ rest)
   chain : Chain (Some t) rest
 
-taken : (rs : List Run) (k : ℕ) (s : Run) (ss : List Run) (t : Run) → Pairs rs → TakesNext rs k s ss t → Taken rs k s ss t
+taken : (rs : List Run) (k : ℕ) (s : Run) (ss : List Run) (t : Run) → Apart rs → TakesNext rs k s ss t → Taken rs k s ss t
 taken rs k s ss t p (inl (y, at, m, is, t_is)) = record {
   rest = drop (suc k) rs;
   is = is;
@@ -148,7 +148,7 @@ aside_joined : (o : Option Run) (x t : Run) → Aside o x → Aside o (joined x 
 aside_joined None x t a = tt
 aside_joined (Some y) x t a = a
 
--- The run t is put behind the runs xs and before the runs ys, in whose list it has place k.
+-- The run t is put behind the runs xs and before the runs ys, as run k of the list.
 record Set (xs ys : List Run) (t : Run) (ss : List Run) : Type 0 where
   alike : Alike (xs ++ t ∷ ys) ss
   chain : Chain None ss
@@ -191,7 +191,7 @@ pub record Added (p : ℕ) (h : Mapping) (rs ss : List Run) : Type 0 where
   pub changed : Changed p (Some h) rs ss
   pub count : pages ss ≡ pages rs + 1
 
-module _ (rs us ss : List Run) (p : ℕ) (h : Mapping) (k : ℕ) (s t : Run) (o : InOrder rs) (none : Unheld rs p) (high : p < 2 ^ 26) (at : Place rs p k) (s_is : s ≡ single p h) (next : TakesNext rs k s us t) where
+module _ (rs us ss : List Run) (p : ℕ) (h : Mapping) (k : ℕ) (s t : Run) (o : InOrder rs) (none : Unheld rs p) (high : p < 2 ^ 26) (at : Slot rs p k) (s_is : s ≡ single p h) (next : TakesNext rs k s us t) where
   next_taken : Taken rs k s us t
   next_taken = taken rs k s us t o.apart next
 
@@ -217,7 +217,7 @@ next_ends rs us k s t o l (inl (y, at, m, is, t_is)) =
     omega (arith, (lies 0 (2 ^ 26) rs k y o.ascending at).high, m.0, ap (λ (r : Run). r.first) t_is, ap (λ (r : Run). r.count) t_is)
 next_ends rs us k s t o l (inr (none, is, t_is)) = omega (arith, ap (λ (r : Run). r.first) t_is, ap (λ (r : Run). r.count) t_is)
 
--- The list that is left has place k, and is no longer.
+-- The list that is left has at least k runs, and is no longer.
 pub next_long : (rs us : List Run) (k : ℕ) (s t : Run) → k ≤ length rs → TakesNext rs k s us t → (k ≤ length us) × (length us ≤ length rs)
 next_long rs us k s t l (inl (y, at, m, is, t_is)) =
     let w = slice_get_within rs k y at in

@@ -24,13 +24,13 @@ abbrev pub given : Pool → ℕ → Pool
 given x f = record { entries = set x.entries f x.head; total = x.total; head = f; spare = x.spare + 1 }
 
 -- No page is mapped, and all frames are free.
-pub kept_empty : (g : Figures) (m : List ℕ) (slots : ℕ) (x y : Pool) → g.gigabyte ≤ 255 → g.leaves ≤ 512 → Bytes m → x.total ≤ 65536 → x.total ≤ length x.entries → x.total ≤ slots → x.total * 4096 ≤ length m
+no_runs : (g : Figures) (m : List ℕ) (slots : ℕ) (x y : Pool) → g.gigabyte ≤ 255 → g.leaves ≤ 512 → Bytes m → x.total ≤ 65536 → x.total ≤ length x.entries → x.total ≤ slots → x.total * 4096 ≤ length m
     → Released x y → Kept g m [] slots y
-kept_empty g m slots x y window high bytes few room slots_room whole released = record {
+no_runs g m slots x y window high bytes few room slots_room contained released = record {
   window = window;
   high = high;
   bytes = bytes;
-  whole = omega (arith, released.total);
+  contained = omega (arith, released.total);
   room = omega (arith, released.total);
   order = record { ascending = ascending_none 0 (2 ^ 26) (omega arith); apart = λ i r s e f m. cc };
   allowed = λ p h e. let z = sym (mapping_none p) ∙ e in cc;
@@ -38,8 +38,17 @@ kept_empty g m slots x y window high bytes few room slots_room whole released = 
   booked = booked_none (first g) (count g) (mapping_of []) x y (omega arith) few room mapping_none released;
 }
 
-pub does_clear : (g : Figures) (m : List ℕ) (rs : List Run) (x y : Pool) → Released x y → Cleared (meant g x.total m rs) (meant g y.total m [])
-does_clear g m rs x y released = record { fixed = record { first = refl; count = refl; frames = released.total }; page = mapping_none }
+pub kept_empty : (g : Figures) (m : List ℕ) (rs : List Run) (slots : ℕ) (x y : Pool) → rs ≡ [] → g.gigabyte ≤ 255 → g.leaves ≤ 512 → Bytes m → x.total ≤ 65536 → x.total ≤ length x.entries → x.total ≤ slots → x.total * 4096 ≤ length m
+    → Released x y → Kept g m rs slots y
+kept_empty g m rs slots x y none window high bytes few room slots_room contained released =
+    subst (λ ss. Kept g m ss slots y) (sym none) (no_runs g m slots x y window high bytes few room slots_room contained released)
+
+-- Runs that are none map no page.
+pub none_mapped : (rs : List Run) (p : ℕ) → rs ≡ [] → mapping_of rs p ≡ None
+none_mapped rs p none = ap (λ ss. mapping_of ss p) none ∙ mapping_none p
+
+pub does_clear : (g : Figures) (m : List ℕ) (rs ss : List Run) (x y : Pool) → ss ≡ [] → Released x y → Cleared (meant g x.total m rs) (meant g y.total m ss)
+does_clear g m rs ss x y none released = record { fixed = record { first = refl; count = refl; frames = released.total; base = refl }; page = λ p. none_mapped ss p none }
 
 -- The first free frame is wiped and goes to the page p, which is unmapped.
 module _ (g : Figures) (m : List ℕ) (rs : List Run) (slots : ℕ) (x : Pool) (k : Kept g m rs slots x) (p r : ℕ) (low : first g ≤ p) (high : p < first g + count g) (gone : mapping_of rs p ≡ None)
@@ -49,7 +58,7 @@ module _ (g : Figures) (m : List ℕ) (rs : List Run) (slots : ℕ) (x : Pool) (
     window = k.window;
     high = k.high;
     bytes = bytes_zeroed (place x.head 0) 4096 m m' k.bytes z;
-    whole = let w = k.whole in let l = z.apart.long in omega arith;
+    contained = let w = k.contained in let l = z.apart.long in omega arith;
     room = k.room;
     order = c.order;
     allowed = λ q h e. ⊎_elim
@@ -68,7 +77,7 @@ module _ (g : Figures) (m : List ℕ) (rs : List Run) (slots : ℕ) (x : Pool) (
 
   pub does_map : Mapped p r (meant g x.total m rs) (meant g x.total m' ss)
   does_map = record {
-    fixed = record { first = refl; count = refl; frames = refl };
+    fixed = record { first = refl; count = refl; frames = refl; base = refl };
     frame = x.head;
     here = c.here;
     free = free;
@@ -87,7 +96,7 @@ module _ (g : Figures) (m : List ℕ) (rs : List Run) (slots : ℕ) (x : Pool) (
     window = k.window;
     high = k.high;
     bytes = k.bytes;
-    whole = k.whole;
+    contained = k.contained;
     room = k.room;
     order = c.order;
     allowed = λ q i e. ⊎_elim
@@ -100,7 +109,7 @@ module _ (g : Figures) (m : List ℕ) (rs : List Run) (slots : ℕ) (x : Pool) (
 
   pub does_unmap : Unmapped p (meant g x.total m rs) (meant g x.total m ss)
   does_unmap = record {
-    fixed = record { first = refl; count = refl; frames = refl };
+    fixed = record { first = refl; count = refl; frames = refl; base = refl };
     here = c.here;
     page = c.page;
     byte = λ e i h s. refl;
@@ -116,7 +125,7 @@ module _ (g : Figures) (m : List ℕ) (rs : List Run) (slots : ℕ) (x : Pool) (
         (λ (is : j ≡ place f i). let s = get_or-set_same m (place f i) b 0 within in omega (arith, ap (λ n. get_or (set m (place f i) b) n 0) is))
         (λ (ne : j ≡ place f i → ⊥). let s = get_or-set_other m (place f i) j b 0 ne in omega (arith, k.bytes j))
         (cases_eq j (place f i));
-    whole = let w = k.whole in omega (arith, length-set m (place f i) b);
+    contained = let w = k.contained in omega (arith, length-set m (place f i) b);
     room = k.room;
     order = k.order;
     allowed = k.allowed;
@@ -126,7 +135,7 @@ module _ (g : Figures) (m : List ℕ) (rs : List Run) (slots : ℕ) (x : Pool) (
 
   pub does_poke : Poked f i b (meant g x.total m rs) (meant g x.total (set m (place f i) b) rs)
   does_poke = record {
-    fixed = record { first = refl; count = refl; frames = refl };
+    fixed = record { first = refl; count = refl; frames = refl; base = refl };
     page = λ q. refl;
     here = get_or-set_same m (place f i) b 0 within;
     byte = λ e j l ne. get_or-set_other m (place f i) (place e j) b 0

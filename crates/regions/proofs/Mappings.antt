@@ -6,7 +6,8 @@ use Rattle.std.proofs.lemmas.Bool.{and_parts, and_from, ltb-true, lt-ltb, le-leb
 use Rattle.std.proofs.lemmas.Bool.Decides.{nat_tests}
 use Rattle.space.specs.declared.parts.Mapping.{Mapping}
 use Rattle.regions.specs.declared.run.Run.{Run}
-use Rattle.regions.specs.Runs.{Holds, holds, Unheld, mapping_in, mapping_of, in_order}
+use Rattle.regions.specs.Runs.{Holds, holds, mapping_in, mapping_of, in_order}
+use Rattle.regions.specs.Changes.{Unheld}
 
 -- What a list in order begins with.
 pub record Head (a b : ℕ) (r : Run) (rs : List Run) : Type 0 where
@@ -74,20 +75,20 @@ unheld_none (r ∷ rs) p none = mapping_later r rs p (none 0 r refl) ∙ unheld_
 
 -- A page with a mapping is held by a run that gives it.
 pub record Given (rs : List Run) (p : ℕ) (h : Mapping) : Type 0 where
-  pub place : ℕ
+  pub slot : ℕ
   pub run : Run
-  pub at : slice_get rs place ≡ Some run
+  pub at : slice_get rs slot ≡ Some run
   pub holds : Holds run p
   pub is : h ≡ mapping_in run p
 
 given_later : (r : Run) (rs : List Run) (p : ℕ) (h : Mapping) → Given rs p h → Given (r ∷ rs) p h
-given_later r rs p h g = record { place = suc g.place; run = g.run; at = g.at; holds = g.holds; is = g.is }
+given_later r rs p h g = record { slot = suc g.slot; run = g.run; at = g.at; holds = g.holds; is = g.is }
 
 pub given_by : (rs : List Run) (p : ℕ) (h : Mapping) → mapping_of rs p ≡ Some h → Given rs p h
 given_by [] p h e = let z = sym (mapping_none p) ∙ e in cc
 given_by (r ∷ rs) p h e =
     ⊎_elim
-    (λ (l : Holds r p). let z = sym e ∙ mapping_here r rs p l in record { place = 0; run = r; at = refl; holds = l; is = (cc) })
+    (λ (l : Holds r p). let z = sym e ∙ mapping_here r rs p l in record { slot = 0; run = r; at = refl; holds = l; is = (cc) })
     (λ (l : Holds r p → ⊥). given_later r rs p h (given_by rs p h (sym (mapping_later r rs p l) ∙ e)))
     (held_or_not r p)
 

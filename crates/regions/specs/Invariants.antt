@@ -18,17 +18,20 @@ meant g total memory rs = record {
   first = first g;
   count = count g;
   frames = total;
+  base = 0;
   page = mapping_of rs;
   byte = λ f i. slice_index memory (place f i);
 }
 
 -- All that always holds of the figures, the memory, the runs in a buffer of so many slots and the bookkeeping of the frames.
 -- Each run has a page and each page a frame of its own, so there are never more runs than frames, and a slot for each frame is enough.
+-- `counted` counts the mapped pages run by run, which bounds the number of runs; `Booked` counts them page by page through the window. That both counts agree is shown nowhere.
 pub record Kept (g : Figures) (memory : List ℕ) (rs : List Run) (slots : ℕ) (x : Pool) : Type 0 where
   pub window : g.gigabyte ≤ 255
   pub high : g.leaves ≤ 512
   pub bytes : Bytes memory
-  pub whole : x.total * 4096 ≤ length memory
+  -- The frames lie in the memory.
+  pub contained : x.total * 4096 ≤ length memory
   pub room : x.total ≤ slots
   pub order : InOrder rs
   pub allowed : Allowed (mapping_of rs)

@@ -1,5 +1,5 @@
--- Runs of pages with equal rights and consecutive frames, and the pages that a list of them maps. Assumes nothing.
-use Rattle.std.specs.Prelude.{◌≡◌, ℕ, suc, ◌+◌, ◌-◌, ◌^◌, ◌<◌, ◌≤◌, Bool, true, cond, ◌&&◌, List, [], ◌∷◌, Some, None, Option, nat_le, nat_lt, take}
+-- Runs of pages with equal rights and consecutive frames, the pages that a list of them maps, and lists in order. Assumes nothing.
+use Rattle.std.specs.Prelude.{◌≡◌, ℕ, suc, ◌+◌, ◌-◌, ◌^◌, ◌<◌, ◌≤◌, Bool, true, cond, ◌&&◌, List, [], ◌∷◌, Some, None, Option, length, nat_le, nat_lt, take}
 use Rattle.std.specs.List.{slice_get, sum_by}
 use Rattle.space.specs.declared.parts.Mapping.{Mapping}
 use Rattle.regions.specs.declared.run.Run.{Run}
@@ -31,38 +31,27 @@ in_order a b (r ∷ rs) = nat_le a r.first && (nat_lt 0 r.count && in_order (r.f
 abbrev pub Meets : Run → Run → Type 0
 Meets r s = (s.first ≡ r.first + r.count) × (s.frame ≡ r.frame + r.count) × (s.rights ≡ r.rights)
 
--- The runs lie so among all pages that there can be, and none goes on where the one before it ends: neighbours that could be one run are one.
+-- No run goes on where the one before it ends: neighbours that could be one run are one.
+abbrev pub Apart : List Run → Type 0
+Apart rs = (i : ℕ) (r s : Run) → slice_get rs i ≡ Some r → slice_get rs (suc i) ≡ Some s → Meets r s → ⊥
+
+-- The runs lie so among all pages that there can be, and neighbours do not meet.
 pub record InOrder (rs : List Run) : Type 0 where
   pub ascending : in_order 0 (2 ^ 26) rs ≡ true
-  pub apart : (i : ℕ) (r s : Run) → slice_get rs i ≡ Some r → slice_get rs (suc i) ≡ Some s → Meets r s → ⊥
+  pub apart : Apart rs
 
 -- How many pages the runs have.
 abbrev pub pages : List Run → ℕ
 pages rs = sum_by (λ r. r.count) rs
 
--- The first run with the second at its end.
-abbrev pub joined : Run → Run → Run
-joined r s = record { first = r.first; count = r.count + s.count; rights = r.rights; frame = r.frame }
-
--- The run of one page.
-abbrev pub single : ℕ → Mapping → Run
-single p h = record { first = p; count = 1; rights = h.rights; frame = h.frame }
-
--- What a run has before a page of its own, and behind it.
-abbrev pub before : Run → ℕ → Run
-before r p = record { first = r.first; count = p - r.first; rights = r.rights; frame = r.frame }
-
-abbrev pub after : Run → ℕ → Run
-after r p = record { first = p + 1; count = r.first + r.count - (p + 1); rights = r.rights; frame = r.frame + (p + 1 - r.first) }
-
 -- Run i holds the page.
 abbrev pub HeldBy : List Run → ℕ → ℕ → Type 0
 HeldBy rs p i = (r : Run) × (slice_get rs i ≡ Some r) × Holds r p
 
--- No run holds the page.
-abbrev pub Unheld : List Run → ℕ → Type 0
-Unheld rs p = (i : ℕ) (r : Run) → slice_get rs i ≡ Some r → Holds r p → ⊥
-
 -- The runs in use, with which the buffer begins.
 abbrev pub in_use : Runs → List Run
 in_use x = take x.used x.buffer.now
+
+-- How many runs the buffer can hold.
+abbrev pub slots : Runs → ℕ
+slots x = length x.buffer.now

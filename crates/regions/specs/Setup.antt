@@ -3,10 +3,11 @@ use Rattle.std.specs.Prelude.{ℕ, ◌*◌}
 use Rattle.space.specs.Setups.{WholeFrames, Window, Roomy}
 use Rattle.regions.specs.declared.figures.Figures.{Figures}
 
--- The first page of the window, and its number of pages.
+-- The first page of the window.
 abbrev pub first : Figures → ℕ
 first g = 262144 * g.gigabyte
 
+-- The number of pages of the window.
 abbrev pub count : Figures → ℕ
 count g = 512 * g.leaves
 

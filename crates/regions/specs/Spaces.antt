@@ -1,5 +1,5 @@
 -- A region list as a whole. Assumes nothing.
-use Rattle.std.specs.Prelude.{◌≡◌, ℕ, suc, ◌+◌, ◌/◌, ◌<◌, ◌≤◌, List, length, Some}
+use Rattle.std.specs.Prelude.{◌≡◌, ℕ, ◌+◌, ◌/◌, ◌<◌, ◌≤◌, List, length, Some}
 use Rattle.std.specs.List.{slice_get}
 use Rattle.space.specs.declared.parts.Mapping.{Mapping}
 use Rattle.space.specs.Meaning.{Meaning, Sound, Held}
@@ -8,7 +8,7 @@ use Rattle.space.specs.Setups.{Empty}
 use Rattle.regions.specs.declared.figures.Figures.{Figures}
 use Rattle.regions.specs.declared.run.Run.{Run}
 use Rattle.regions.specs.declared.list.RegionList.{RegionList}
-use Rattle.regions.specs.Runs.{Meets, HeldBy, in_use}
+use Rattle.regions.specs.Runs.{Apart, HeldBy, in_use, slots}
 use Rattle.regions.specs.Setup.{first, count}
 use Rattle.regions.specs.Invariants.{meant, meant_sound, place as place-of}
 
@@ -30,7 +30,7 @@ always t = Unit {0}
 
 -- Every space is sound.
 pub means_sound : (t : RegionList) → Sound (means t)
-means_sound t = meant_sound t.figures (memory_of t) (runs_of t) (length t.runs.buffer.now) (pool t.frames) t.kept
+means_sound t = meant_sound t.figures (memory_of t) (runs_of t) (slots t.runs) (pool t.frames) t.kept
 
 -- Some page has the frame, and its byte at the index lies at this place of the memory.
 pub record IsByte (t : RegionList) (f i at : ℕ) : Type 0 where
@@ -39,7 +39,7 @@ pub record IsByte (t : RegionList) (f i at : ℕ) : Type 0 where
   pub place : at ≡ place-of f i
   pub within : at < length (memory_of t)
 
--- The runs ascend, are disjoint, and hold exactly the mapped pages, with their frames and rights. There are as few as can be.
+-- The runs ascend, are disjoint, and hold exactly the mapped pages, with their frames and rights. Neighbours that could be one run are one.
 pub record Lists (m : Meaning) (rs : List Run) : Type 0 where
   -- No run is empty, and each ends before the later ones begin.
   pub some : (i : ℕ) (r : Run) → slice_get rs i ≡ Some r → 0 < r.count
@@ -47,7 +47,7 @@ pub record Lists (m : Meaning) (rs : List Run) : Type 0 where
   -- Page k of a run is mapped to frame k of the run, with the run's rights.
   pub mapped : (i k : ℕ) (r : Run) → slice_get rs i ≡ Some r → k < r.count → m.page (r.first + k) ≡ Some (record { frame = r.frame + k; rights = r.rights })
   -- No run goes on where the one before it ends.
-  pub apart : (i : ℕ) (r s : Run) → slice_get rs i ≡ Some r → slice_get rs (suc i) ≡ Some s → Meets r s → ⊥
+  pub apart : Apart rs
   -- Some run holds a mapped page.
   pub held : (p : ℕ) (h : Mapping) → m.page p ≡ Some h → (i : ℕ) × HeldBy rs p i
 
@@ -58,6 +58,7 @@ pub record Made (bytes : ℕ) (g : Figures) (t : RegionList) : Type 0 where
 
 -- What is made of other figures: a space without pages and frames. Memory and buffers are as they were.
 pub record Unmade (xs : List ℕ) (rs : List Run) (es : List ℕ) (t : RegionList) : Type 0 where
+  pub figures : t.figures ≡ record { gigabyte = 0; leaves = 0 }
   pub empty : Empty 0 0 0 (means t)
   pub memory : memory_of t ≡ xs
   pub runs : t.runs.buffer.now ≡ rs

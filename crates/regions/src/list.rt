@@ -1,7 +1,6 @@
-// An address space as a list of runs of pages, over lent memory.
-ghost use Rattle.std.specs.Prelude.{length};
+// The space: lent memory, the runs of its mapped pages, its frames, and what always holds of them.
 ghost use Rattle.space.specs.Frames.{pool};
-ghost use Rattle.regions.specs.Runs.{in_use};
+ghost use Rattle.regions.specs.Runs.{in_use, slots};
 ghost use Rattle.regions.specs.Invariants.{Kept};
 
 mod calls;
@@ -18,5 +17,5 @@ pub struct RegionList<'a> {
     runs: Runs<'a>,
     frames: Frames<'a>,
     figures: Figures,
-    ghost kept: { Kept figures memory.now (in_use runs) (length runs.buffer.now) (pool frames) },
+    ghost kept: { Kept figures memory.now (in_use runs) (slots runs) (pool frames) },
 }

@@ -1,6 +1,7 @@
 // Runs of pages with equal rights and consecutive frames.
 ghost use Rattle.std.specs.Prelude.{◌≡◌, ◌+◌, ◌^◌, ◌<◌, ◌≤◌, Decides};
-ghost use Rattle.regions.specs.Runs.{Holds, Meets, mapping_in, single, joined, before, after};
+ghost use Rattle.regions.specs.Runs.{Holds, Meets, mapping_in};
+ghost use Rattle.regions.specs.Changes.{single, joined, before, after};
 
 use space::parts::Mapping;
 
@@ -27,8 +28,8 @@ impl Run {
     }
 
     // Whether the run holds a page.
-    pub(crate) fn holds(&self, page: u32) -> bool
-        ensures { Decides result (Holds self.now page) }
+    pub(crate) fn holds(self, page: u32) -> bool
+        ensures { Decides result (Holds self page) }
     {
         self.first <= page && page - self.first < self.count
     }
@@ -49,8 +50,8 @@ impl Run {
     pub(crate) fn meets(self, next: Run) -> bool
         ensures { Decides result (Meets self next) }
     {
-        next.first.checked_sub(self.first) == Some(self.count)
-            && next.frame.checked_sub(self.frame) == Some(self.count)
+        self.first.checked_add(self.count) == Some(next.first)
+            && self.frame.checked_add(self.count) == Some(next.frame)
             && next.rights == self.rights
     }
 

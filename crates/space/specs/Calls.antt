@@ -30,6 +30,7 @@ pub record Fixed (m n : Meaning) : Type 0 where
   pub first : n.first ≡ m.first
   pub count : n.count ≡ m.count
   pub frames : n.frames ≡ m.frames
+  pub base : n.base ≡ m.base
 
 -- No page is mapped any more.
 pub record Cleared (m n : Meaning) : Type 0 where

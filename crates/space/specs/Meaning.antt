@@ -2,11 +2,13 @@
 use Rattle.std.specs.Prelude.{◌≡◌, ℕ, zero, suc, ◌+◌, ◌^◌, ◌<◌, ◌≤◌, ◌⊎◌, Some, None, Option}
 use Rattle.space.specs.declared.parts.Mapping.{Mapping}
 
--- First page, page count and number of frames; the frame and rights of a page, where it is mapped; the byte at an index of a frame, for every frame.
+-- First page, page count and number of frames; the physical address of the memory where hardware reads the space from it, else 0; the frame and
+-- rights of a page, where it is mapped; the byte at an index of a frame, for every frame.
 pub record Meaning : Type 0 where
   pub first : ℕ
   pub count : ℕ
   pub frames : ℕ
+  pub base : ℕ
   pub page : ℕ → Option Mapping
   pub byte : ℕ → ℕ → ℕ
 

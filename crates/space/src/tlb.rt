@@ -1,5 +1,5 @@
 // A software-filled TLB of sixteen entries in front of any address space.
-ghost use Rattle.std.specs.Prelude.{◌≡◌, Some};
+ghost use Rattle.std.specs.Prelude.{◌≡◌, ℕ, Some, None, slice_index_or};
 ghost use Rattle.space.specs.declared.parts.Mapping.{Mapping as Translation};
 ghost use Rattle.space.specs.Calls.{Step, Looks};
 ghost use Rattle.space.specs.Cache.{Placed, Valid, Holds, OneChanged};
@@ -27,6 +27,7 @@ impl<'s, S: Space> Tlb<'s, S> {
     // An empty TLB in front of a space.
     pub fn new(below: &'s mut S) -> Tlb<'s, S>
         ensures same { result.below.now ≡ below.old }
+        ensures empty { (k : ℕ) → slice_index_or result.entries k None ≡ None }
         ensures valid { S.Space.valid below.old → Valid S.Space.valid S.Space.meaning result.below.now result.entries }
     {
         Tlb {

@@ -148,7 +148,7 @@ module _ (g : Figures) (m : List ℕ) (x : Pool) (k : Kept g m x) (p r : ℕ) (l
 
   pub does_map : Mapped p r (meant g x.total m) (meant g x.total m')
   does_map = record {
-    fixed = record { first = refl; count = refl; frames = refl };
+    fixed = record { first = refl; count = refl; frames = refl; base = refl };
     frame = x.head;
     here = mapped_here;
     free = free;
@@ -175,7 +175,7 @@ module _ (g : Figures) (m : List ℕ) (x : Pool) (k : Kept g m x) (p : ℕ) (low
 
   pub does_unmap : Unmapped p (meant g x.total m) (meant g x.total m')
   does_unmap = record {
-    fixed = record { first = refl; count = refl; frames = refl };
+    fixed = record { first = refl; count = refl; frames = refl; base = refl };
     here = page_here g m m' p 0 low high w;
     page = page_other g m m' p 0 low high w;
     byte = λ e i h s. byte_same g m m' p 0 low high w (place g e i) (omega arith);
@@ -208,7 +208,7 @@ module _ (g : Figures) (m : List ℕ) (x : Pool) (k : Kept g m x) (m' : List ℕ
       all_zero released
 
   pub does_clear : Cleared (meant g x.total m) (meant g y.total m')
-  does_clear = record { fixed = record { first = refl; count = refl; frames = released.total }; page = none_left g m' all_zero }
+  does_clear = record { fixed = record { first = refl; count = refl; frames = released.total; base = refl }; page = none_left g m' all_zero }
 
 -- A byte of a data frame is put.
 module _ (g : Figures) (m : List ℕ) (x : Pool) (k : Kept g m x) (f i b : ℕ) (small : i < 4096) (within : place g f i < length m) where
@@ -217,7 +217,7 @@ module _ (g : Figures) (m : List ℕ) (x : Pool) (k : Kept g m x) (f i b : ℕ) 
 
   pub does_poke : Poked f i b (meant g x.total m) (meant g x.total (set m (place g f i) b))
   does_poke = record {
-    fixed = record { first = refl; count = refl; frames = refl };
+    fixed = record { first = refl; count = refl; frames = refl; base = refl };
     page = λ q. same_page g m (set m (place g f i) b) q (λ j _ l. data_apart g m _ (place g f i) 1 (apart_one (place g f i) b m) (omega arith) (1024 + j) (omega arith));
     here = get_or-set_same m (place g f i) b 0 within;
     byte = λ e j l ne. get_or-set_other m (place g f i) (place g e j) b 0

@@ -45,6 +45,7 @@ pub record Made (bytes : ℕ) (g : Figures) (t : Sv39) : Type 0 where
 
 -- What is made of other figures: a space without pages and frames. Memory and buffer are as they were.
 pub record Unmade (xs es : List ℕ) (t : Sv39) : Type 0 where
+  pub figures : t.figures ≡ record { base = 0; gigabyte = 0; leaves = 0 }
   pub empty : Empty 0 0 0 (means t)
   pub memory : memory_of t ≡ xs
   pub entries : t.frames.entries.now ≡ es

@@ -52,6 +52,7 @@ meant g total memory = record {
   first = first g;
   count = count g;
   frames = total;
+  base = g.base;
   page = page_at g memory;
   byte = λ f i. slice_index memory (place g f i);
 }

@@ -4,7 +4,7 @@ ghost use Rattle.faults.specs.declared.fault.Layer.TheVariants.{Space as SpaceLa
 ghost use Rattle.faults.specs.declared.fault.Reason.TheVariants.{OutsideWindow};
 ghost use Rattle.faults.specs.Rules.{single, Answers, Checked};
 ghost use Rattle.space.specs.Meaning.{Outside};
-ghost use Rattle.space.specs.Calls.{Step, byte_rules, Looks, Maps, Unmaps, Pokes};
+ghost use Rattle.space.specs.Calls.{Step, byte_rules, Cleared, Looks, Maps, Unmaps, Pokes};
 ghost use Rattle.regions.specs.Runs.{HeldBy};
 ghost use Rattle.regions.specs.Spaces.{always, memory_of, runs_of, means, means_sound, IsByte};
 
@@ -58,8 +58,12 @@ impl<'a> Space for RegionList<'a> {
         }
     }
 
-    fn clear(&mut self) {
-        self.runs.used = 0;
+    // The memory stays as it is.
+    fn clear(&mut self)
+        ensures step { Step always means self.old self.new Cleared }
+        ensures memory { memory_of self.new ≡ memory_of self.old }
+    {
+        self.runs.clear();
         self.frames.release_all();
     }
 
@@ -81,9 +85,7 @@ impl<'a> Space for RegionList<'a> {
         if self.runs.holding(page).is_some() {
             return Err(page_refusal(Reason::PageMapped, page));
         }
-        let Some(frame) = self.frames.first_free() else {
-            return Err(refusal(Reason::NoRoom, 0));
-        };
+        let frame = self.frames.first_free().ok_or(refusal(Reason::NoRoom, 0))?;
         if !is_lawful(rights) {
             return Err(refusal(Reason::RightsNumber, u64::from(rights)));
         }

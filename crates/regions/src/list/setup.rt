@@ -13,6 +13,7 @@ use faults::fault::{Fault, Reason};
 use space::frames::Frames;
 use space::parts::refusal;
 use space::setup::{is_whole, is_window};
+use space::space::Space;
 
 impl<'a> RegionList<'a> {
     // Whether a space can be set up: the memory's length, the figures, the lengths of the buffers for runs and for frames.
@@ -30,6 +31,37 @@ impl<'a> RegionList<'a> {
         Ok(())
     }
 
+    // A space without pages and frames. Memory and buffers stay as they are.
+    fn nothing(memory: &'a mut [u8], runs: &'a mut [Run], free: &'a mut [u32]) -> RegionList<'a>
+        ensures { Unmade memory.old runs.old free.old result }
+    {
+        RegionList {
+            memory,
+            runs: Runs::new(runs),
+            frames: Frames::new(free, 0),
+            figures: Figures::default(),
+        }
+    }
+
+    // A space of lawful figures, with no page mapped.
+    fn build(
+        memory: &'a mut [u8],
+        figures: Figures,
+        runs: &'a mut [Run],
+        free: &'a mut [u32],
+    ) -> RegionList<'a>
+        requires { LawfulFigures (length memory.old) figures (length runs.old) (length free.old) }
+        ensures { Made (length memory.old) figures result }
+    {
+        let total = (memory.len() / 4096) as u32;
+        RegionList {
+            memory,
+            runs: Runs::new(runs),
+            frames: Frames::new(free, total),
+            figures,
+        }
+    }
+
     // A space with no page mapped. Of figures that the check refuses it has no page and no frame, and leaves memory and buffers alone.
     pub fn new(
         memory: &'a mut [u8],
@@ -37,27 +69,14 @@ impl<'a> RegionList<'a> {
         runs: &'a mut [Run],
         free: &'a mut [u32],
     ) -> RegionList<'a>
+        ensures valid { ⟦<RegionList<'a> as Space>⟧.valid result }
         ensures made { LawfulFigures (length memory.old) figures (length runs.old) (length free.old) → Made (length memory.old) figures result }
         ensures unmade { (LawfulFigures (length memory.old) figures (length runs.old) (length free.old) → ⊥) → Unmade memory.old runs.old free.old result }
     {
         // `new` cannot fail: the refusal is the check's to give, and a space of refused figures has an empty window and no frame.
-        let (figures, total) = match RegionList::check(
-            memory.len(),
-            figures,
-            runs.len(),
-            free.len(),
-        ) {
-            Ok(()) => (figures, (memory.len() / 4096) as u32),
-            Err(_) => (Figures::default(), 0),
-        };
-        RegionList {
-            memory,
-            runs: Runs {
-                buffer: runs,
-                used: 0,
-            },
-            frames: Frames::new(free, total),
-            figures,
+        match Self::check(memory.len(), figures, runs.len(), free.len()) {
+            Ok(()) => Self::build(memory, figures, runs, free),
+            Err(_) => Self::nothing(memory, runs, free),
         }
     }
 

@@ -1,8 +1,8 @@
-// Runs, and what is found among them.
+// The runs in use, and searches among them.
 ghost use Rattle.std.specs.Prelude.{◌≡◌, ◌<◌, Some, MatchOption};
 ghost use Rattle.std.specs.List.{slice_get};
-ghost use Rattle.regions.specs.Runs.{HeldBy, Unheld, in_use};
-ghost use Rattle.regions.specs.Changes.{Place};
+ghost use Rattle.regions.specs.Runs.{HeldBy, in_use};
+ghost use Rattle.regions.specs.Changes.{Unheld, Slot};
 
 use crate::run::Run;
 use crate::runs::Runs;
@@ -15,7 +15,7 @@ impl<'a> Runs<'a> {
         &self.buffer[..self.used]
     }
 
-    // Run i.
+    // Run i of those in use.
     pub(crate) fn get(&self, i: usize) -> Run
         requires { i < self.now.used }
         ensures { slice_get (in_use self.now) i ≡ Some result }
@@ -23,16 +23,16 @@ impl<'a> Runs<'a> {
         self.buffer[i]
     }
 
-    // The run that holds a page.
+    // The number of the run that holds a page, where one does.
     pub(crate) fn holding(&self, page: u32) -> Option<usize>
         ensures { MatchOption result (Unheld (in_use self.now) page) (λ i. HeldBy (in_use self.now) page i) }
     {
         self.as_slice().iter().position(|run| run.holds(page))
     }
 
-    // Where a run of a page that no run holds has its place: before the first run that begins above it.
-    pub(crate) fn place(&self, page: u32) -> usize
-        ensures { Place (in_use self.now) page result }
+    // The slot for a page that no run holds: that of the first run that begins above the page, or the one behind all runs.
+    pub(crate) fn slot_for(&self, page: u32) -> usize
+        ensures { Slot (in_use self.now) page result }
     {
         self.as_slice()
             .iter()

@@ -4,7 +4,7 @@ ghost use Rattle.faults.specs.declared.fault.Layer.TheVariants.{Space as SpaceLa
 ghost use Rattle.faults.specs.declared.fault.Reason.TheVariants.{OutsideWindow};
 ghost use Rattle.faults.specs.Rules.{single, Hit, Answers};
 ghost use Rattle.space.specs.Meaning.{Outside};
-ghost use Rattle.space.specs.Calls.{Step, byte_rules, Looks, Maps, Unmaps, Pokes};
+ghost use Rattle.space.specs.Calls.{Step, byte_rules, Cleared, Looks, Maps, Unmaps, Pokes};
 ghost use Rattle.sv39.specs.Tables.{count, word, mapping_in};
 ghost use Rattle.sv39.specs.Spaces.{always, memory_of, means, means_sound, InWindow, IsByte};
 
@@ -72,7 +72,11 @@ impl<'a> Space for Sv39<'a> {
         }
     }
 
-    fn clear(&mut self) {
+    // Where the set-up was refused the memory stays as it is.
+    fn clear(&mut self)
+        ensures step { Step always means self.old self.new Cleared }
+        ensures refused { self.old.figures.leaves ≡ 0 → memory_of self.new ≡ memory_of self.old }
+    {
         // A number and no option: `new` cannot fail, and the figures say by 0 that they were refused.
         if self.figures.leaves == 0 {
             return;

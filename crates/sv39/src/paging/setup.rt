@@ -15,6 +15,7 @@ use faults::fault::{Fault, Reason};
 use space::frames::Frames;
 use space::parts::refusal;
 use space::setup::{is_whole, is_window};
+use space::space::Space;
 
 impl<'a> Sv39<'a> {
     // Whether a space can be set up: the memory's length, the figures, the length of the buffer for frames.
@@ -62,6 +63,7 @@ impl<'a> Sv39<'a> {
 
     // A space with no page mapped. Of figures that the check refuses it has no page and no frame, and leaves memory and buffer alone.
     pub fn new(memory: &'a mut [u8], figures: Figures, free: &'a mut [u32]) -> Sv39<'a>
+        ensures valid { ⟦<Sv39<'a> as Space>⟧.valid result }
         ensures made { LawfulFigures (length memory.old) figures (length free.old) → Made (length memory.old) figures result }
         ensures unmade { (LawfulFigures (length memory.old) figures (length free.old) → ⊥) → Unmade memory.old free.old result }
     {

@@ -7,7 +7,7 @@ invariant_of-self c =
     let t = c.args.self.now in
     record { kept = kept_clear t.figures _ (pool t.frames) t.kept _ (pool c.release_all.new.self) c.zero.ensures c.release_all.ensures }
 
-pub returns : goal.returns
-returns c v =
+pub returns-clause-step : goal.returns-clause-step
+returns-clause-step c v =
     let t = c.args.self.now in
     (tt, does_clear t.figures _ (pool t.frames) t.kept _ (pool c.release_all.new.self) c.zero.ensures c.release_all.ensures)
