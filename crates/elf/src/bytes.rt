@@ -1,5 +1,5 @@
 // Numbers stored lowest byte first, and bytes that lie in others.
-ghost use Rattle.std.specs.Prelude.{◌≡◌, ◌+◌, ◌^◌, ◌<◌, ◌≤◌, ◌⊎◌, length, Decides};
+ghost use Rattle.std.specs.Prelude.{◌≡◌, ◌+◌, ◌%◌, ◌^◌, ◌<◌, ◌≤◌, ◌⊎◌, length, Decides};
 ghost use Rattle.elf.specs.Bytes.{le};
 ghost use Rattle.elf.specs.Records.{signed};
 
@@ -21,14 +21,19 @@ pub(crate) fn u32_at(file: &[u8], at: usize) -> u32
 }
 
 // A number of an address's width, 4 or 8 bytes. The width stays a number: offsets in a record are sums of it, and addresses are tested for being
-// multiples of it.
+// multiples of it. The library is told the width as a literal, here and below: told a number that comes with the file's layout, it copies the bytes
+// by a call of memcpy, and a check of many relocations takes ten times as long.
 pub(crate) fn word_at(file: &[u8], at: usize, width: usize) -> u64
     requires inside { at + width ≤ length file.now }
     requires width { (width ≡ 4) ⊎ (width ≡ 8) }
     ensures value { result ≡ le file.now at width }
     ensures bound { result < 256 ^ width }
 {
-    LittleEndian::read_uint(&file[at..], width)
+    if width == 4 {
+        LittleEndian::read_uint(&file[at..], 4)
+    } else {
+        LittleEndian::read_uint(&file[at..], 8)
+    }
 }
 
 // A number of an address's width, read as a signed one.
@@ -37,7 +42,23 @@ pub(crate) fn signed_at(file: &[u8], at: usize, width: usize) -> i64
     requires width { (width ≡ 4) ⊎ (width ≡ 8) }
     ensures { result ≡ signed width (le file.now at width) }
 {
-    LittleEndian::read_int(&file[at..], width)
+    if width == 4 {
+        LittleEndian::read_int(&file[at..], 4)
+    } else {
+        LittleEndian::read_int(&file[at..], 8)
+    }
+}
+
+// Whether an address is a multiple of the width of an address. By literals, as above: no division by a number of the layout.
+pub(crate) fn is_aligned(address: u64, width: usize) -> bool
+    requires { (width ≡ 4) ⊎ (width ≡ 8) }
+    ensures { Decides result (address % width ≡ 0) }
+{
+    if width == 4 {
+        address % 4 == 0
+    } else {
+        address % 8 == 0
+    }
 }
 
 // Whether the `length` bytes from `start` on hold the `size` bytes from `from` on.

@@ -1,5 +1,5 @@
 // The records of an ELF file, each read from the file's bytes.
-ghost use Rattle.std.specs.Prelude.{◌≡◌, ℕ, ◌+◌, ◌-◌, ◌*◌, ◌^◌, ◌<◌, ◌≤◌, List, length, MatchOption};
+ghost use Rattle.std.specs.Prelude.{◌≡◌, ℕ, ◌+◌, ◌-◌, ◌*◌, ◌/◌, ◌%◌, ◌^◌, ◌<◌, ◌≤◌, List, length, MatchOption};
 ghost use Rattle.std.specs.Iterator.{at_most};
 ghost use Rattle.elf.specs.Layouts.{Sound};
 ghost use Rattle.elf.specs.Records.{file_header, header_at, entry_at, relocation_at};
@@ -137,6 +137,20 @@ impl Record for DynamicEntry {
     ghost small = { λ l sound. entry_small l sound };
 }
 
+// The type and the symbol in a relocation's info. That of 64-bit files is split by a literal: a division by a number that comes with the layout takes
+// as long as all else of the reading.
+fn split(info: u64, kinds: u64) -> (u32, u32)
+    requires kinds { (0 < kinds) × (kinds ≤ 2 ^ 32) }
+    requires symbols { info < kinds * 2 ^ 32 }
+    ensures { (result.0 ≡ info % kinds) × (result.1 ≡ info / kinds) }
+{
+    if kinds == 1 << 32 {
+        ((info % (1 << 32)) as u32, (info / (1 << 32)) as u32)
+    } else {
+        ((info % kinds) as u32, (info / kinds) as u32)
+    }
+}
+
 impl Record for Relocation {
     ghost width = { λ l. l.relocation };
 
@@ -148,10 +162,11 @@ impl Record for Relocation {
 
     fn read(l: Layout, file: &[u8], at: usize) -> Relocation {
         let info = word_at(file, at + l.word, l.word);
+        let (kind, symbol) = split(info, l.kinds);
         Relocation {
             offset: word_at(file, at, l.word),
-            kind: (info % l.kinds) as u32,
-            symbol: (info / l.kinds) as u32,
+            kind,
+            symbol,
             addend: signed_at(file, at + 2 * l.word, l.word),
         }
     }

@@ -6,6 +6,7 @@ ghost use Rattle.elf.specs.Segments.{on_each, phnum};
 ghost use Rattle.elf.specs.Searches.{FirstOf};
 ghost use Rattle.elf.specs.Dynamic.{relocation_table, BadKind, BadTarget, Writable, relocation_rules};
 
+use crate::bytes::is_aligned;
 use crate::kinds::{Access, RelocationType};
 use crate::records::Relocation;
 use crate::stages::{Dynamics, Headers, Records};
@@ -47,7 +48,7 @@ impl<'a> Records<'a, Relocation> {
         if !r.is(RelocationType::Relative) {
             return false;
         }
-        r.offset % self.headers.layout.word as u64 != 0
+        !is_aligned(r.offset, self.headers.layout.word)
             || self.headers.holding_word(r.offset).is_none()
     }
 

@@ -131,7 +131,7 @@ impl Layer {
     pub fn number(self) -> u8
         ensures { result ≡ layer_number self }
     {
-        u8::from(self)
+        self.into()
     }
 }
 
